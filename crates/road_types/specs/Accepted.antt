@@ -1,8 +1,8 @@
 -- What holds of a road whose record has no fault, fact by fact.
-use Rattle.std.specs.Prelude.{◌≡◌, ◌≢◌, ℕ, ◌+◌, ◌-◌, ◌≤◌, ◌<◌, List, length, ℤ, pos, neg_ℤ, ◌≤ℤ◌, ◌<ℤ◌}
+use Rattle.std.specs.Prelude.{◌≡◌, ℕ, ◌+◌, ◌-◌, ◌≤◌, List, length, ℤ, pos, neg_ℤ, ◌≤ℤ◌, ◌<ℤ◌}
 use Rattle.road_types.specs.Numbered.{numbered, IsNumber}
 use Rattle.road_types.specs.Heights.{segment_start, segment_end}
-use Rattle.road_types.specs.Road.{section, hop, fixed_point, pit, access, block, section_count, segment_count, hop_count, fixed_count, pit_count, access_count, block_count, no_pit}
+use Rattle.road_types.specs.Road.{section, hop, fixed_point, pit, access, block, section_count, segment_count, hop_count, fixed_count, pit_count, access_count, block_count}
 use Rattle.road_types.specs.declared.road.Road.{Road}
 use Rattle.road_types.specs.declared.road.Section.{Section}
 use Rattle.road_types.specs.declared.road.Slab.{Slab}

@@ -1,5 +1,5 @@
 -- The height of a road: one quadratic a segment. Stations are whole steps, heights mm times the plan's denominator.
-use Rattle.std.specs.Prelude.{ℕ, suc, Bool, if◌then◌else◌, List, [], ◌∷◌, ℤ, pos, ◌+ℤ◌, ◌-ℤ◌, ◌*ℤ◌, int_lt}
+use Rattle.std.specs.Prelude.{ℕ, suc, if◌then◌else◌, List, [], ◌∷◌, ℤ, pos, ◌+ℤ◌, ◌-ℤ◌, ◌*ℤ◌, int_lt}
 use Rattle.road_types.specs.Numbered.{numbered}
 
 -- the height of `a + b*s + c*s^2` at s steps from the segment's start

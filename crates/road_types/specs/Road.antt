@@ -1,5 +1,5 @@
 -- What stands on a road by its number, which begins at 1. Past the end stands an entry without any amount or cost.
-use Rattle.std.specs.Prelude.{ℕ, ◌-◌, List, [], length, ℤ, pos}
+use Rattle.std.specs.Prelude.{ℕ, ◌-◌, [], length, ℤ, pos}
 use Rattle.road_types.specs.Numbered.{numbered}
 use Rattle.road_types.specs.declared.road.Road.{Road}
 use Rattle.road_types.specs.declared.road.Section.{Section}
