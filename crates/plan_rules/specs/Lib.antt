@@ -1,0 +1,4 @@
+pub mod Plans
+pub mod Fits
+pub mod Rules
+pub mod Costs
