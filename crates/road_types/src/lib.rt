@@ -2,6 +2,7 @@
 // Definitions of heights and volumes over plain numbers stand in specs/.
 #![tactic(auto)]
 
+mod check;
 mod fault;
 mod listed;
 mod road;
