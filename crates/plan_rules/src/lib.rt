@@ -2,6 +2,8 @@
 // The definitions stand in specs/: Plans, Fits, Rules, Costs.
 #![tactic(auto)]
 
+mod fits;
+mod logic;
 mod plan;
 mod verdict;
 
