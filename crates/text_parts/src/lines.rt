@@ -1,4 +1,4 @@
-ghost use Rattle.std.specs.Prelude.{◌≡◌, ◌<◌, ◌+◌, List, [], ◌∷◌, MatchOption, IfSome, All};
+ghost use Rattle.std.specs.Prelude.{◌≡◌, ◌<◌, ◌+◌, ◌^◌, List, [], ◌∷◌, MatchOption, IfSome, All};
 ghost use Rattle.text_parts.specs.Lines.{lines_of, IsSpanOf, end_of};
 
 use crate::cut::cut_at;
@@ -64,7 +64,8 @@ impl<'a> Lines<'a> {
 
     /// How many lines were given so far, which is the number of the last one.
     pub fn number(&self) -> usize
-        ensures { result ≡ self.now.number }
+        ensures value { result ≡ self.now.number }
+        ensures small { result < 2 ^ 63 }
     {
         self.given
     }
