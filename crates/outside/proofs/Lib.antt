@@ -1,1 +1,3 @@
+pub mod EntryChanges
+pub mod EntryLemmas
 pub mod KnownBytes

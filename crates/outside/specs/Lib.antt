@@ -1,4 +1,5 @@
 pub mod Calls
+pub mod Entry
 pub mod Faults
 pub mod Files
 pub mod MemSink

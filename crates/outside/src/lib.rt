@@ -4,12 +4,16 @@
 
 mod calls;
 mod disk_store;
+mod entries;
+mod entry;
+mod mem_store;
 mod out_sink;
 mod pieces;
 mod sink;
 mod store;
 
 pub use disk_store::DiskStore;
+pub use mem_store::MemStore;
 pub use out_sink::OutSink;
 pub use sink::{Sink, SinkFailed};
 pub use store::{Store, StoreErr};

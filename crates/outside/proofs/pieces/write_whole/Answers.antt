@@ -1,4 +1,4 @@
-use Rattle.std.proofs.Common.{◌≤◌, ◌-◌, length, drop, length-drop, arith}
+use Rattle.std.proofs.Common.{◌-◌, length, drop, length-drop, arith}
 use Rattle.std.proofs.lemmas.List.{take_all}
 use Rattle.outside.proofs.KnownBytes.{Appends-take}
 use Rattle.outside.proofs.pieces.write_whole.Goals as goal
