@@ -47,7 +47,11 @@ impl Entry {
     pub(crate) fn file(&self) -> Option<&[u8]>
         ensures { MatchOption result (self.now.file ≡ None) (λ bytes. self.now.file ≡ Some bytes.now) }
     {
-        if self.is_file { Some(&self.bytes) } else { None }
+        if self.is_file {
+            Some(&self.bytes)
+        } else {
+            None
+        }
     }
 
     /// Puts a file there, in the place of any that was there. The room stays.

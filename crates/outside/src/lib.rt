@@ -6,6 +6,7 @@ mod calls;
 mod disk_store;
 mod entries;
 mod entry;
+mod mem_sink;
 mod mem_store;
 mod out_sink;
 mod pieces;
@@ -13,7 +14,11 @@ mod sink;
 mod store;
 
 pub use disk_store::DiskStore;
+pub use mem_sink::MemSink;
 pub use mem_store::MemStore;
 pub use out_sink::OutSink;
 pub use sink::{Sink, SinkFailed};
 pub use store::{Store, StoreErr};
+
+#[cfg(test)]
+mod tests;

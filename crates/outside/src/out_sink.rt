@@ -1,5 +1,6 @@
 // The standard output.
-ghost use Rattle.std.specs.Prelude.{◌≡◌, ℕ, None};
+ghost use Rattle.std.specs.Prelude.{◌≡◌, ◌≤◌, ℕ, OnOk, OnErr, None};
+ghost use Rattle.outside.specs.Faults.{one_more};
 
 use crate::calls::count_fault;
 use crate::pieces::write_whole;
@@ -33,7 +34,12 @@ impl<'a, R: Print> Sink for OutSink<'a, R> {
 
     ghost faults = { λ s. s };
 
-    fn put(&mut self, bytes: &[u8]) -> Result<(), SinkFailed> {
+    /// Writes all the bytes to the standard output. Each failure is a fault.
+    fn put(&mut self, bytes: &[u8]) -> Result<(), SinkFailed>
+        ensures fault { OnErr result (self.new ≡ one_more self.old) }
+        ensures no_fault { OnOk result (self.new ≡ self.old) }
+        ensures never_falls { self.old ≤ self.new }
+    {
         let answer = write_whole(&mut io::writer(self.rt), bytes);
         if answer.is_err() {
             count_fault(&mut self.faults);
