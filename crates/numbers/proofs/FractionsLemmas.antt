@@ -1,0 +1,90 @@
+-- Fractions in lowest terms: made from magnitudes and a sign, and one for each value.
+use Rattle.std.proofs.Common.{◌≡◌, ℕ, ◌*◌, ◌^◌, ◌≤◌, ◌<◌, ◌⊎◌, ⊎_elim, true, false, refl, arith, ap, sym, ◌∙◌, subst}
+use Rattle.std.specs.Prelude.{ℤ, pos, negsuc, ◌*ℤ◌, ◌≢◌, unsigned_abs, int_lt}
+use Rattle.std.specs.Int.{IsGcd}
+use Rattle.std.proofs.lemmas.Int.{ints, unsigned_abs-mul}
+use Rattle.std.proofs.Math.Nat.{eq_of_mul-eq-mul_right}
+use Rattle.algebra.proofs.Products.{int_mul_assoc, int_mul_comm, int_neg_mul}
+use Rattle.algebra.proofs.Order.{int_eq_of_mul_right}
+use Rattle.numbers.specs.Fractions.{Fraction, IsLowest, IsReduced, HasValue, HasFraction, AreLowest, HasSign}
+use Rattle.numbers.proofs.DivisorsLemmas.{greatest_of_magnitudes, magnitudes_of_greatest, same_lowest}
+
+not_below : (n : ℕ) → int_lt (pos n) (pos 0) ≡ false
+not_below n = let e : false ≡ int_lt (pos n) (pos 0) = omega (arith, ints) in sym e
+
+below : (n : ℕ) → int_lt (negsuc n) (pos 0) ≡ true
+below n = refl
+
+signs_differ : (m n : ℕ) → int_lt (pos m) (pos 0) ≢ int_lt (negsuc n) (pos 0)
+signs_differ m n e = let p = not_below m in let q = below n in cc
+
+pub signed_value : (n : ℤ) (t b : ℕ) (z w : ℤ) → HasSign n t z w → t * unsigned_abs w ≡ unsigned_abs z * b → n *ℤ w ≡ z *ℤ pos b
+signed_value n t b (pos z) (pos w) h e = ap (λ x. x *ℤ pos w) (h.same (not_below z ∙ sym (not_below w))) ∙ omega (arith, ints)
+signed_value n t b (negsuc z) (negsuc w) h e = ap (λ x. x *ℤ negsuc w) (h.same (below z ∙ sym (below w))) ∙ omega (arith, ints)
+signed_value n t b (pos z) (negsuc w) h e = ap (λ x. x *ℤ negsuc w) (h.other (signs_differ z w)) ∙ omega (arith, ints, int_neg_mul (pos t) (negsuc w))
+signed_value n t b (negsuc z) (pos w) h e = ap (λ x. x *ℤ pos w) (h.other (λ e. signs_differ w z (sym e))) ∙ omega (arith, ints, int_neg_mul (pos t) (pos w))
+
+pub signed_magnitude : (n : ℤ) (t : ℕ) (z w : ℤ) → HasSign n t z w → unsigned_abs n ≡ t
+signed_magnitude n t (pos z) (pos w) h = ap unsigned_abs (h.same (not_below z ∙ sym (not_below w)))
+signed_magnitude n t (negsuc z) (negsuc w) h = ap unsigned_abs (h.same (below z ∙ sym (below w)))
+signed_magnitude n t (pos z) (negsuc w) h = let s = h.other (signs_differ z w) in omega (arith, ints)
+signed_magnitude n t (negsuc z) (pos w) h = let s = h.other (λ e. signs_differ w z (sym e)) in omega (arith, ints)
+
+-- the fraction of a signed numerator and a denominator of the lowest magnitudes has the value, and is reduced
+pub made_value : (t d : ℕ) (z w n m : ℤ) → AreLowest t d z w → HasSign n t z w → m ≡ pos d → HasValue (record { num = n; den = m }) z w
+made_value t d z w n m h sign e = record { defined = h.defined; same = signed_value n t d z w sign h.same ∙ ap (λ x. z *ℤ x) (sym e) }
+
+pub made_reduced : (t d : ℕ) (z w n m : ℤ) → AreLowest t d z w → HasSign n t z w → m ≡ pos d → t < 2 ^ 127 → d < 2 ^ 127 → IsReduced (record { num = n; den = m })
+made_reduced t d z w n m h sign e p q =
+    let size = signed_magnitude n t z w sign in
+    let some = h.positive in
+    let width : unsigned_abs m ≡ d = ap unsigned_abs e in
+    let g : IsGcd (unsigned_abs n) (unsigned_abs m) 1 = subst (λ x. IsGcd x (unsigned_abs m) 1) (sym size) (subst (λ x. IsGcd t x 1) (sym width) h.lowest) in
+    record {
+      lowest = record { positive = omega (arith, ints); coprime = greatest_of_magnitudes n m 1 g };
+      num_in_range = omega arith;
+      den_in_range = omega arith;
+    }
+
+-- and every fraction in lowest terms of that value has these magnitudes
+pub magnitudes_of_lowest : (t d : ℕ) (z w : ℤ) (f : Fraction) → AreLowest t d z w → IsLowest f → HasValue f z w → (unsigned_abs f.num ≡ t) × (unsigned_abs f.den ≡ d)
+magnitudes_of_lowest t d z w f h p v =
+    let p_w : unsigned_abs f.num * unsigned_abs w ≡ unsigned_abs z * unsigned_abs f.den = sym (unsigned_abs-mul f.num w) ∙ ap unsigned_abs v.same ∙ unsigned_abs-mul z f.den in
+    let first = ap (λ x. x * d) p_w in
+    let second = ap (λ x. x * unsigned_abs f.den) h.same in
+    let some : 0 < unsigned_abs w = let x = h.defined in omega (arith, ints) in
+    let ratio : unsigned_abs f.num * d ≡ t * unsigned_abs f.den = eq_of_mul-eq-mul_right (unsigned_abs w) some (unsigned_abs f.num * d) (t * unsigned_abs f.den) (omega arith) in
+    same_lowest (unsigned_abs f.num) (unsigned_abs f.den) t d (magnitudes_of_greatest f.num f.den 1 p.coprime) h.lowest ratio
+
+pub no_fraction : (t d : ℕ) (z w : ℤ) → AreLowest t d z w → (2 ^ 127 ≤ t) ⊎ (2 ^ 127 ≤ d) → HasFraction z w → ⊥
+no_fraction t d z w h out found =
+    let m = magnitudes_of_lowest t d z w found.0 h found.1.lowest found.2 in
+    let num = found.1.num_in_range in
+    let den = found.1.den_in_range in
+    let first = m.0 in
+    let second = m.1 in
+    ⊎_elim (λ (l : 2 ^ 127 ≤ t). absurd (omega arith)) (λ (l : 2 ^ 127 ≤ d). absurd (omega arith)) out
+
+-- two fractions in lowest terms of one value are one
+same_parts : (f g : Fraction) → f.num ≡ g.num → f.den ≡ g.den → f ≡ g
+same_parts f g p q = λ i. record { num = p i; den = q i }
+
+pub same_lowest_fraction : (f g : Fraction) → IsLowest f → IsLowest g → f.num *ℤ g.den ≡ g.num *ℤ f.den → f ≡ g
+same_lowest_fraction f g p q e =
+    let magnitudes : unsigned_abs f.num * unsigned_abs g.den ≡ unsigned_abs g.num * unsigned_abs f.den = sym (unsigned_abs-mul f.num g.den) ∙ ap unsigned_abs e ∙ unsigned_abs-mul g.num f.den in
+    let both = same_lowest (unsigned_abs f.num) (unsigned_abs f.den) (unsigned_abs g.num) (unsigned_abs g.den) (magnitudes_of_greatest f.num f.den 1 p.coprime) (magnitudes_of_greatest g.num g.den 1 q.coprime) magnitudes in
+    let first = p.positive in
+    let second = q.positive in
+    let size = both.1 in
+    let dens : f.den ≡ g.den = omega (arith, ints) in
+    let some : f.den ≢ pos 0 = λ z. omega (arith, ints) in
+    same_parts f g (int_eq_of_mul_right f.num g.num f.den some (ap (λ x. f.num *ℤ x) dens ∙ e)) dens
+
+swap_last : (a b c : ℤ) → a *ℤ b *ℤ c ≡ a *ℤ c *ℤ b
+swap_last a b c = int_mul_assoc a b c ∙ ap (λ x. a *ℤ x) (int_mul_comm b c) ∙ sym (int_mul_assoc a c b)
+
+pub same_value_fraction : (f g : Fraction) (z w : ℤ) → IsLowest f → IsLowest g → HasValue f z w → HasValue g z w → f ≡ g
+same_value_fraction f g z w p q u v =
+    let left : f.num *ℤ g.den *ℤ w ≡ z *ℤ f.den *ℤ g.den = swap_last f.num g.den w ∙ ap (λ x. x *ℤ g.den) u.same in
+    let right : g.num *ℤ f.den *ℤ w ≡ z *ℤ g.den *ℤ f.den = swap_last g.num f.den w ∙ ap (λ x. x *ℤ f.den) v.same in
+    same_lowest_fraction f g p q (int_eq_of_mul_right (f.num *ℤ g.den) (g.num *ℤ f.den) w u.defined (left ∙ swap_last z f.den g.den ∙ sym right))

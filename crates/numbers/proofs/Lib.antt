@@ -1,0 +1,2 @@
+pub mod DivisorsLemmas
+pub mod FractionsLemmas

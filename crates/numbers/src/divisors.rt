@@ -1,0 +1,62 @@
+ghost use Rattle.std.specs.Prelude.{◌≡◌, ◌*◌, ◌<◌};
+ghost use Rattle.std.specs.Int.{IsGcd};
+
+/// The greatest common divisor of two numbers below 2^64.
+pub(crate) fn gcd_word(a: u64, b: u64) -> u64
+    ensures { IsGcd a b result }
+{
+    if a == 0 {
+        return b;
+    }
+    if a == 1 {
+        return 1;
+    }
+    let mut x = a;
+    let mut y = b;
+    while y > 1 {
+        let rest = x % y;
+        x = y;
+        y = rest;
+    }
+    if y == 0 { x } else { 1 }
+}
+
+/// The greatest common divisor; as soon as both numbers are below 2^64 it divides 64-bit numbers.
+pub(crate) fn gcd_wide(a: u128, b: u128) -> u128
+    ensures { IsGcd a b result }
+{
+    if a == 0 {
+        return b;
+    }
+    if a == 1 {
+        return 1;
+    }
+    let mut x = a;
+    let mut y = b;
+    while y > GREATEST_WORD {
+        let rest = x % y;
+        x = y;
+        y = rest;
+    }
+    if y == 0 {
+        return x;
+    }
+    if y == 1 {
+        return 1;
+    }
+    gcd_word(y as u64, (x % y) as u64) as u128
+}
+
+/// Both numbers divided by their greatest common divisor.
+pub(crate) fn lowest_terms(a: u128, b: u128) -> (u128, u128)
+    requires { 0 < b }
+    ensures same { result.0 * b ≡ a * result.1 }
+    ensures lowest { IsGcd result.0 result.1 1 }
+    ensures positive { 0 < result.1 }
+{
+    let divisor = gcd_wide(a, b);
+    (a / divisor, b / divisor)
+}
+
+/// The greatest number below 2^64.
+const GREATEST_WORD: u128 = u64::MAX as u128;
