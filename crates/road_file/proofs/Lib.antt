@@ -1,0 +1,5 @@
+pub mod DocumentLemmas
+pub mod ItemsLemmas
+pub mod KeysLemmas
+pub mod NamesLemmas
+pub mod RoadLemmas

@@ -1,0 +1,27 @@
+-- Steps that may end in a fault, one after another: the first fault is the answer.
+use Rattle.std.specs.Prelude.{◌≡◌, Result, Ok, Err, Bool, if◌then◌else◌}
+use Rattle.road_types.specs.declared.fault.Fault.{Fault}
+use Rattle.road_file.specs.declared.error.RoadErr.{RoadErr}
+use Rattle.road_file.specs.declared.error.RoadErr.TheVariants.{Refused, NoMemory}
+
+-- the first step, and with its value the next one
+infixl 10 ◌>>=◌
+abbrev pub ◌>>=◌ : {A B : Type 0} → Result A Fault → (A → Result B Fault) → Result B Fault
+(Ok x) >>= next = next x
+(Err fault) >>= next = Err fault
+
+-- a value where a rule is kept, else the rule's fault
+abbrev pub where_kept : {A : Type 0} → Bool → Fault → A → Result A Fault
+where_kept rule fault x = if rule then Ok x else Err fault
+
+-- what may be answered where this is due: its value, or its fault; want of memory may be answered wherever it comes
+abbrev pub Answers : {A : Type 0} → Result A RoadErr → Result A Fault → Type 0
+Answers (Ok x) due = due ≡ Ok x
+Answers (Err (Refused fault)) due = due ≡ Err fault
+Answers (Err NoMemory) due = Unit {0}
+
+-- the same of a value that stands for what is due
+abbrev pub AnswersAs : {A B : Type 0} → (A → B) → Result A RoadErr → Result B Fault → Type 0
+AnswersAs stands_for (Ok x) due = due ≡ Ok (stands_for x)
+AnswersAs stands_for (Err (Refused fault)) due = due ≡ Err fault
+AnswersAs stands_for (Err NoMemory) due = Unit {0}

@@ -1,0 +1,249 @@
+// From the bytes of a road file to its road.
+ghost use Rattle.std.specs.Prelude.{◌≡◌, IfOk, MatchResult, IsTrue, false, map, length, replicate, unwrap_or};
+ghost use Rattle.std.specs.Str.{bytes_eq};
+ghost use Rattle.indexmap.specs.IndexMap.{get_by};
+ghost use Rattle.road_types.specs.Faults.{road_fault};
+ghost use Rattle.road_file.specs.Step.{Answers};
+ghost use Rattle.road_file.specs.RoadOf.{number_of, kind_of, pit_from, access_to, access_from, block_from, hops_between, road_from, contents_of, of_fault, road_of};
+ghost use Rattle.road_file.specs.Names.{IsNumbering};
+
+use crate::document::document;
+use crate::file::{FileAccess, FileBlock, FilePit, RoadFile};
+use crate::ranges::{file_in_range, is_borrow};
+use crate::{RoadErr, keys};
+use indexmap::IndexMap;
+use road_types::{Access, Block, Fault, Hop, Listed, Pit, PitKind, Road};
+use std::alloc::{AllocError, Global};
+
+/// The number of an entry; 0, which is none, below 1.
+fn number(x: i64) -> usize
+    ensures { result ≡ number_of x }
+{
+    if x >= 0 { x as usize } else { 0 }
+}
+
+fn kind(kind: &str) -> PitKind
+    ensures { result ≡ kind_of kind.now }
+{
+    if is_borrow(kind) {
+        PitKind::Borrow
+    } else {
+        PitKind::Waste
+    }
+}
+
+/// The numbers of the pits by their names; a name that stands twice has the first number.
+fn numbering<'a>(alloc: Global, pits: &'a [FilePit]) -> Result<IndexMap<&'a str, usize>, AllocError>
+    ensures { IfOk result (IsNumbering pits.now) }
+{
+    let mut numbers = IndexMap::new(alloc);
+    for (index, pit) in pits.iter().enumerate() {
+        let name = pit.name.as_str();
+        if !numbers.contains_key(name) {
+            numbers.insert(name, index + 1)?;
+        }
+    }
+    Ok(numbers)
+}
+
+#[tactic(auto, unfolding(crate::specs::RoadOf::pit_from))]
+fn pit(pit: FilePit) -> Pit
+    ensures { result ≡ pit_from pit }
+{
+    let FilePit {
+        name,
+        kind: word,
+        capacity,
+        cost,
+    } = pit;
+    Pit {
+        name,
+        kind: kind(word.as_str()),
+        capacity,
+        cost,
+    }
+}
+
+fn pits(alloc: Global, pits: Vec<FilePit>) -> Result<Listed<Pit>, AllocError>
+    ensures { IfOk result (λ r. r ≡ map pit_from pits.items) }
+{
+    let mut built = Vec::new(alloc);
+    for file_pit in pits {
+        built.push(pit(file_pit))?;
+    }
+    Ok(Listed::new(built))
+}
+
+/// The number of the pit with a name; 0 where no pit has it.
+fn pit_number(numbers: &IndexMap<&str, usize>, name: &str) -> usize
+    ensures { result ≡ unwrap_or (get_by (λ k. bytes_eq name.now k.now) numbers.now) 0 }
+{
+    match numbers.get(name) {
+        Some(number) => *number,
+        None => 0,
+    }
+}
+
+/// An access road, with its pit by number.
+#[tactic(auto, unfolding(crate::specs::RoadOf::access_to))]
+fn access(pit: usize, access: &FileAccess) -> Access
+    ensures { result ≡ access_to pit access.now }
+{
+    Access {
+        pit,
+        section: number(access.section),
+        cost: access.cost,
+        max: access.max,
+    }
+}
+
+fn roads(
+    alloc: Global,
+    pits: &[FilePit],
+    roads: &[FileAccess],
+) -> Result<Listed<Access>, AllocError>
+    ensures { IfOk result (λ r. r ≡ map (access_from pits.now) roads.now) }
+{
+    let numbers = numbering(alloc, pits)?;
+    let mut built = Vec::new(alloc);
+    for road in roads {
+        let pit = pit_number(&numbers, road.pit.as_str());
+        built.push(access(pit, road))?;
+    }
+    Ok(Listed::new(built))
+}
+
+#[tactic(auto, unfolding(crate::specs::RoadOf::block_from))]
+fn block(block: &FileBlock) -> Block
+    ensures { result ≡ block_from block.now }
+{
+    Block {
+        section: number(block.section),
+        cost: block.cost,
+    }
+}
+
+fn blocks(alloc: Global, blocks: &[FileBlock]) -> Result<Listed<Block>, AllocError>
+    ensures { IfOk result (λ r. r ≡ map block_from blocks.now) }
+{
+    let mut built = Vec::new(alloc);
+    for file_block in blocks {
+        built.push(block(file_block))?;
+    }
+    Ok(Listed::new(built))
+}
+
+/// One entry stands for every hop.
+#[tactic(auto, unfolding(crate::specs::RoadOf::hops_between))]
+fn hops_between(
+    alloc: Global,
+    sections: usize,
+    hops: Listed<Hop>,
+) -> Result<Listed<Hop>, AllocError>
+    ensures { IfOk result (λ r. r ≡ hops_between sections hops) }
+{
+    if let [hop] = hops.as_slice() {
+        let mut copies = Vec::new(alloc);
+        copies.resize(sections.saturating_sub(1), *hop)?;
+        Ok(Listed::new(copies))
+    } else {
+        Ok(hops)
+    }
+}
+
+/// The road that a file's values stand for.
+#[tactic(auto, unfolding(crate::specs::RoadOf::road_from))]
+fn road(alloc: Global, file: RoadFile) -> Result<Road, AllocError>
+    ensures { IfOk result (λ r. r ≡ road_from file) }
+{
+    let RoadFile {
+        version: _,
+        step,
+        stages,
+        knots,
+        low,
+        high,
+        grade,
+        curve,
+        nodes,
+        pivots,
+        table: _,
+        sections,
+        hops,
+        fixed,
+        pits: file_pits,
+        roads: file_roads,
+        blocks: file_blocks,
+    } = file;
+    let roads = roads(alloc, file_pits.as_slice(), file_roads.as_slice())?;
+    let hops = hops_between(alloc, sections.len(), hops)?;
+    let blocks = blocks(alloc, file_blocks.as_slice())?;
+    let pits = pits(alloc, file_pits.into_vec())?;
+    Ok(Road {
+        step,
+        stages: number(stages),
+        knots,
+        low,
+        high,
+        grade,
+        curve,
+        sections,
+        fixed,
+        pits,
+        roads,
+        blocks,
+        hops,
+        nodes,
+        pivots,
+    })
+}
+
+/// Refused by the fault where a rule isn't kept.
+fn keep(rule: bool, fault: Fault) -> Result<(), RoadErr>
+    ensures { MatchResult result (λ _. IsTrue rule) (λ e. (e ≡ RoadErr.Refused fault) × (rule ≡ false)) }
+{
+    if rule {
+        Ok(())
+    } else {
+        Err(RoadErr::Refused(fault))
+    }
+}
+
+/// What a file says, where its keys, kinds and ranges are right.
+#[tactic(auto, unfolding(crate::specs::RoadOf::contents_of))]
+fn contents(alloc: Global, bytes: &[u8]) -> Result<RoadFile, RoadErr>
+    ensures { Answers result (contents_of bytes.now) }
+{
+    let root = document(alloc, bytes)?;
+    keep(keys::is_complete(&root), Fault::F3)?;
+    keep(keys::is_known(&root), Fault::F4)?;
+    let file = RoadFile::read(alloc, &root)?;
+    keep(file_in_range(&file), Fault::F6)?;
+    Ok(file)
+}
+
+/// Refused by the first fault of a road's record.
+fn accepted(road: Road) -> Result<Road, RoadErr>
+    ensures answers { Answers result (of_fault road (road_fault road)) }
+    ensures accepted { IfOk result (λ r. road_fault r ≡ None) }
+{
+    match road.check() {
+        None => Ok(road),
+        Some(fault) => Err(RoadErr::Refused(fault)),
+    }
+}
+
+/// Reads a road file of at most 4 MiB; `csv` is what stands in the section table that it names, if any.
+///
+/// Refused by the first fault of the file, in the order F1 to F6, F0 where a section table is named, F7 to F15;
+/// a road that is answered has none of them. `NoMemory` where memory is wanting.
+#[tactic(auto, unfolding(crate::specs::RoadOf::road_of))]
+pub fn read_road(alloc: Global, bytes: &[u8], csv: Option<&[u8]>) -> Result<Road, RoadErr>
+    ensures answers { Answers result (road_of bytes.now) }
+    ensures accepted { IfOk result (λ road. road_fault road ≡ None) }
+{
+    let _ = csv;
+    let file = contents(alloc, bytes)?;
+    keep(file.table.is_none(), Fault::F0)?;
+    accepted(road(alloc, file)?)
+}
