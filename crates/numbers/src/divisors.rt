@@ -1,9 +1,10 @@
-ghost use Rattle.std.specs.Prelude.{◌≡◌, ◌*◌, ◌<◌};
+ghost use Rattle.std.specs.Prelude.{◌≡◌, ◌*◌, ◌≤◌, ◌<◌, max};
 ghost use Rattle.std.specs.Int.{IsGcd};
 
 /// The greatest common divisor of two numbers below 2^64.
 pub(crate) fn gcd_word(a: u64, b: u64) -> u64
-    ensures { IsGcd a b result }
+    ensures greatest { IsGcd a b result }
+    ensures within { result ≤ max a b }
 {
     if a == 0 {
         return b;
@@ -23,7 +24,8 @@ pub(crate) fn gcd_word(a: u64, b: u64) -> u64
 
 /// The greatest common divisor; as soon as both numbers are below 2^64 it divides 64-bit numbers.
 pub(crate) fn gcd_wide(a: u128, b: u128) -> u128
-    ensures { IsGcd a b result }
+    ensures greatest { IsGcd a b result }
+    ensures within { result ≤ max a b }
 {
     if a == 0 {
         return b;

@@ -4,5 +4,11 @@
 
 mod divisors;
 mod fraction;
+mod w128;
+mod w64;
+mod whole;
 
 pub use fraction::Frac;
+pub use w64::W64;
+pub use w128::W128;
+pub use whole::Whole;

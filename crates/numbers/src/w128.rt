@@ -1,0 +1,72 @@
+ghost use Rattle.std.specs.Prelude.{◌≡◌, ℤ, ◌^◌, ◌-◌, ◌≤◌, ◌<◌, unsigned_abs, refl};
+ghost use Rattle.std.proofs.Common.{arith, rules};
+
+use crate::divisors::gcd_wide;
+use crate::whole::Whole;
+use std::cmp::Ordering;
+
+/// The whole numbers of magnitude at most 2^127 - 1.
+#[derive(Clone, Copy, Debug)]
+pub struct W128 {
+    value: i128,
+    ghost in_range: { unsigned_abs value < 2 ^ 127 },
+}
+
+impl Whole for W128 {
+    ghost meaning = { λ x. x.value };
+
+    ghost greatest = { 2 ^ 127 - 1 };
+
+    fn of(v: i64) -> Option<W128> {
+        Some(W128 { value: v as i128 })
+    }
+
+    fn of_wide(v: i128) -> Option<W128> {
+        if v == i128::MIN {
+            None
+        } else {
+            Some(W128 { value: v })
+        }
+    }
+
+    fn wide(self) -> i128 {
+        self.value
+    }
+
+    fn times(self, other: W128) -> Option<W128> {
+        W128::of_wide(self.value.checked_mul(other.value)?)
+    }
+
+    fn plus(self, other: W128) -> Option<W128> {
+        W128::of_wide(self.value.checked_add(other.value)?)
+    }
+
+    fn minus(self, other: W128) -> Option<W128> {
+        W128::of_wide(self.value.checked_sub(other.value)?)
+    }
+
+    fn exact_part(self, divisor: W128) -> W128 {
+        W128 {
+            value: self.value / divisor.value,
+        }
+    }
+
+    fn gcd(self, other: W128) -> W128 {
+        let divisor = gcd_wide(self.value.unsigned_abs(), other.value.unsigned_abs());
+        W128 {
+            value: divisor as i128,
+        }
+    }
+
+    fn order(self, other: W128) -> Ordering {
+        self.value.cmp(&other.value)
+    }
+
+    ghost in_range = { λ x. Prim.search rules };
+
+    ghost holds_all = { λ z h. (record { value = z; in_range = Prim.omega arith }, refl) };
+
+    ghost at_least_one = { Prim.search rules };
+
+    ghost below_wide = { Prim.search rules };
+}
