@@ -4,12 +4,12 @@ use Rattle.std.specs.Prelude.{ℤ, pos, negsuc, neg_ℤ, ◌+ℤ◌, ◌-ℤ◌,
 use Rattle.std.specs.Int.{IsGcd, ◌∣◌, cast_signed, cast_unsigned}
 use mir.Syntax.{Width}
 use mir.Val.{hbits}
-use Rattle.std.proofs.Math.Nat.{dvd_refl, eq-zero_of_zero-dvd, mod-eq-zero_of_dvd, mul-sub, mul-le-mul_left, one-dvd, dvd-mul_left, dvd-mul_right, mul-div_cancel', le_of_dvd, dvd_antisymm, pos_of_dvd_of_pos, div-mul_cancel, dvd_of_mul-dvd-mul_right, mul-dvd-mul_right}
+use Rattle.std.proofs.Math.Nat.{eq_of_mul-eq-mul_left, mul-dvd-mul_left, mul-le-mul_right, dvd_refl, eq-zero_of_zero-dvd, mod-eq-zero_of_dvd, mul-sub, mul-le-mul_left, one-dvd, dvd-mul_left, dvd-mul_right, mul-div_cancel', le_of_dvd, dvd_antisymm, pos_of_dvd_of_pos, div-mul_cancel, dvd_of_mul-dvd-mul_right, mul-dvd-mul_right}
 use Rattle.std.proofs.lemmas.Nat.Gcd.{IsGcd-swap, IsGcd-from_zero, IsGcd-from_sub, same_from_IsGcd}
 use Rattle.std.proofs.lemmas.Bool.{cases_lt}
 use Rattle.std.proofs.lemmas.Int.{ints, unsigned_abs-mul, quot-rem, quot_is, fits_signed_from_abs}
 use Rattle.algebra.proofs.Products.{int_mul_assoc, int_mul_add, int_mul_neg, int_mul_comm}
-use Rattle.numbers.specs.Divisors.{Divides, IsGreatestCommonDivisor}
+use Rattle.numbers.specs.Divisors.{Divides, IsGreatestCommonDivisor, IsLeastCommonMultiple}
 
 -- ---- naturals
 
@@ -97,6 +97,35 @@ module _ (a b g : ℕ) (h : IsGcd a b g) (some : 0 < b) where
             let e : g ≡ 1 * g = omega arith in
             dvd_of_mul-dvd-mul_right d gcd_positive (subst (λ x. d * g ∣ x) e all),
       )
+
+-- where t/d are the lowest terms of a/b, the least common multiple of a and b is a * d
+module _ (a b t d : ℕ) (e : t * b ≡ a * d) (g : IsGcd t d 1) (some : 0 < a) where
+  multiple_least : (k : ℕ) → a ∣ k → b ∣ k → a * d ∣ k
+  multiple_least k p q =
+      let x = k / a in
+      let y = k / b in
+      let by_a : a * x ≡ k = mul-div_cancel' a p in
+      let by_b : b * y ≡ k = mul-div_cancel' b q in
+      let left = ap (λ n. n * y) e in
+      let right = ap (λ n. t * n) (by_a ∙ sym by_b) in
+      let cross : x * t ≡ d * y = eq_of_mul-eq-mul_left a some (x * t) (d * y) (omega arith) in
+      let D : ℕ → Type 0 = λ n. d ∣ n in
+      let rest = dvd_of_coprime d t x (IsGcd-swap t d 1 g) (subst D (sym cross) (dvd-mul_right d y)) in
+      let M : ℕ → Type 0 = λ n. a * d ∣ n in
+      subst M by_a (mul-dvd-mul_left d a rest)
+
+  pub made_multiple : (m : ℕ) → m ≡ a * d → IsLeastCommonMultiple a b m
+  made_multiple m h = record {
+    left = (let P : ℕ → Type 0 = λ n. a ∣ n in subst P (sym h) (dvd-mul_right a d));
+    right = (let P : ℕ → Type 0 = λ n. b ∣ n in subst P (e ∙ sym h) (dvd-mul_left b t));
+    least = λ k p q. let P : ℕ → Type 0 = λ n. n ∣ k in subst P (sym h) (multiple_least k p q);
+  }
+
+  pub multiple_exceeds : (most m : ℕ) → most < a * d → 0 < m → a ∣ m → b ∣ m → most < m
+  multiple_exceeds most m over positive p q = let l = le_of_dvd positive (multiple_least m p q) in omega arith
+
+  pub factor_exceeds : (most m : ℕ) → most < d → 0 < m → a ∣ m → b ∣ m → most < m
+  factor_exceeds most m over = let l = mul-le-mul_right d some in multiple_exceeds most m (omega arith)
 
 -- ---- whole numbers
 

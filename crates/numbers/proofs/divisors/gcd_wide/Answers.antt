@@ -15,7 +15,7 @@ pub returns-then-y-eq1-clause-greatest : goal.returns-then-y-eq1-clause-greatest
 returns-then-y-eq1-clause-greatest c = c.loop-y.invariant _ (IsGcd-from_one_right _ _ c.if-y-eq1.true)
 
 pub returns-clause-greatest : goal.returns-clause-greatest
-returns-clause-greatest c = c.loop-y.invariant _ (IsGcd-from_mod _ _ _ c.gcd_word.ensures.greatest)
+returns-clause-greatest c = c.loop-y.invariant _ (IsGcd-from_mod _ _ _ c.gcd_word-divisor.ensures.greatest)
 
 pub returns-then-y-eq0-clause-within : goal.returns-then-y-eq0-clause-within
 returns-then-y-eq0-clause-within c = IsGcd-le_max _ _ _ (returns-then-y-eq0-clause-greatest c)
