@@ -1,4 +1,4 @@
-ghost use Rattle.std.specs.Prelude.{◌≡◌, ℤ, ◌^◌, ◌-◌, ◌≤◌, ◌<◌, unsigned_abs, refl};
+ghost use Rattle.std.specs.Prelude.{◌≡◌, ◌↔◌, ℤ, ◌*ℤ◌, ◌^◌, ◌-◌, ◌≤◌, ◌<◌, IsTrue, unsigned_abs, refl};
 ghost use Rattle.std.proofs.Common.{arith, rules};
 
 use crate::divisors::gcd_wide;
@@ -34,6 +34,11 @@ impl Whole for W128 {
     }
 
     fn times(self, other: W128) -> Option<W128> {
+        if is_word(self.value) && is_word(other.value) {
+            return Some(W128 {
+                value: word_product(self.value, other.value),
+            });
+        }
         W128::of_wide(self.value.checked_mul(other.value)?)
     }
 
@@ -70,3 +75,24 @@ impl Whole for W128 {
 
     ghost below_wide = { Prim.search rules };
 }
+
+/// Whether the magnitude is below 2^63, so that a product of two such numbers is in range.
+fn is_word(v: i128) -> bool
+    ensures { IsTrue result ↔ (unsigned_abs v < 2 ^ 63) }
+{
+    -WORD < v && v < WORD
+}
+
+/// The product of two numbers of magnitude below 2^63.
+#[tactic(auto, using(crate::proofs::WholeLemmas::word_product_fits))]
+fn word_product(a: i128, b: i128) -> i128
+    requires left { unsigned_abs a < 2 ^ 63 }
+    requires right { unsigned_abs b < 2 ^ 63 }
+    ensures value { result ≡ a *ℤ b }
+    ensures in_range { unsigned_abs result < 2 ^ 127 }
+{
+    a * b
+}
+
+/// 2^63.
+const WORD: i128 = 9_223_372_036_854_775_808;
