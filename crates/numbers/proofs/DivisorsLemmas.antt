@@ -1,13 +1,15 @@
 -- Divisibility of whole numbers, and against divisibility of their magnitudes.
-use Rattle.std.proofs.Common.{◌≡◌, ℕ, zero, suc, ◌+◌, ◌-◌, ◌*◌, ◌/◌, ◌≤◌, ◌<◌, ⊎_elim, refl, arith, ap, sym, ◌∙◌, subst}
-use Rattle.std.specs.Prelude.{ℤ, pos, negsuc, neg_ℤ, ◌+ℤ◌, ◌-ℤ◌, ◌*ℤ◌, ◌≤ℤ◌, ◌<ℤ◌, unsigned_abs}
-use Rattle.std.specs.Int.{IsGcd, ◌∣◌}
-use Rattle.std.proofs.Math.Nat.{mul-sub, mul-le-mul_left, one-dvd, dvd-mul_left, dvd-mul_right, mul-div_cancel', le_of_dvd, dvd_antisymm, pos_of_dvd_of_pos, div-mul_cancel, dvd_of_mul-dvd-mul_right, mul-dvd-mul_right}
+use Rattle.std.proofs.Common.{◌≡◌, ℕ, zero, suc, ◌+◌, ◌-◌, ◌*◌, ◌/◌, ◌^◌, ◌≤◌, ◌<◌, max, ⊎_elim, refl, arith, ap, sym, ◌∙◌, subst}
+use Rattle.std.specs.Prelude.{ℤ, pos, negsuc, neg_ℤ, ◌+ℤ◌, ◌-ℤ◌, ◌*ℤ◌, ◌≤ℤ◌, ◌<ℤ◌, ◌≢◌, unsigned_abs, int_div, int_rem}
+use Rattle.std.specs.Int.{IsGcd, ◌∣◌, cast_signed, cast_unsigned}
+use mir.Syntax.{Width}
+use mir.Val.{hbits}
+use Rattle.std.proofs.Math.Nat.{eq_of_mul-eq-mul_left, mul-dvd-mul_left, mul-le-mul_right, dvd_refl, eq-zero_of_zero-dvd, mod-eq-zero_of_dvd, mul-sub, mul-le-mul_left, one-dvd, dvd-mul_left, dvd-mul_right, mul-div_cancel', le_of_dvd, dvd_antisymm, pos_of_dvd_of_pos, div-mul_cancel, dvd_of_mul-dvd-mul_right, mul-dvd-mul_right}
 use Rattle.std.proofs.lemmas.Nat.Gcd.{IsGcd-swap, IsGcd-from_zero, IsGcd-from_sub, same_from_IsGcd}
 use Rattle.std.proofs.lemmas.Bool.{cases_lt}
-use Rattle.std.proofs.lemmas.Int.{ints, unsigned_abs-mul}
+use Rattle.std.proofs.lemmas.Int.{ints, unsigned_abs-mul, quot-rem, quot_is, fits_signed_from_abs}
 use Rattle.algebra.proofs.Products.{int_mul_assoc, int_mul_add, int_mul_neg, int_mul_comm}
-use Rattle.numbers.specs.Divisors.{Divides, IsGreatestCommonDivisor}
+use Rattle.numbers.specs.Divisors.{Divides, IsGreatestCommonDivisor, IsLeastCommonMultiple}
 
 -- ---- naturals
 
@@ -16,6 +18,12 @@ IsGcd-from_one_left a b e = (one-dvd a, one-dvd b, λ d p q. subst (λ n. d ∣ 
 
 pub IsGcd-from_one_right : (a b : ℕ) → b ≡ 1 → IsGcd a b 1
 IsGcd-from_one_right a b e = IsGcd-swap b a 1 (IsGcd-from_one_left b a e)
+
+-- a greatest common divisor is at most the greater of the two
+pub IsGcd-le_max : (a b g : ℕ) → IsGcd a b g → g ≤ max a b
+IsGcd-le_max zero zero g h = let e = eq-zero_of_zero-dvd (h.2 0 (dvd_refl 0) (dvd_refl 0)) in omega arith
+IsGcd-le_max (suc a) b g h = let some : 0 < suc a = omega arith in let l = le_of_dvd some h.0 in omega arith
+IsGcd-le_max zero (suc b) g h = let some : 0 < suc b = omega arith in let l = le_of_dvd some h.1 in omega arith
 
 -- two numbers have a greatest common divisor, and the same multiple of both has that multiple of it
 scaled : (n a b : ℕ) → a + b ≤ n → (g : ℕ) × IsGcd a b g × ((k : ℕ) → IsGcd (k * a) (k * b) (k * g))
@@ -90,6 +98,35 @@ module _ (a b g : ℕ) (h : IsGcd a b g) (some : 0 < b) where
             dvd_of_mul-dvd-mul_right d gcd_positive (subst (λ x. d * g ∣ x) e all),
       )
 
+-- where t/d are the lowest terms of a/b, the least common multiple of a and b is a * d
+module _ (a b t d : ℕ) (e : t * b ≡ a * d) (g : IsGcd t d 1) (some : 0 < a) where
+  multiple_least : (k : ℕ) → a ∣ k → b ∣ k → a * d ∣ k
+  multiple_least k p q =
+      let x = k / a in
+      let y = k / b in
+      let by_a : a * x ≡ k = mul-div_cancel' a p in
+      let by_b : b * y ≡ k = mul-div_cancel' b q in
+      let left = ap (λ n. n * y) e in
+      let right = ap (λ n. t * n) (by_a ∙ sym by_b) in
+      let cross : x * t ≡ d * y = eq_of_mul-eq-mul_left a some (x * t) (d * y) (omega arith) in
+      let D : ℕ → Type 0 = λ n. d ∣ n in
+      let rest = dvd_of_coprime d t x (IsGcd-swap t d 1 g) (subst D (sym cross) (dvd-mul_right d y)) in
+      let M : ℕ → Type 0 = λ n. a * d ∣ n in
+      subst M by_a (mul-dvd-mul_left d a rest)
+
+  pub made_multiple : (m : ℕ) → m ≡ a * d → IsLeastCommonMultiple a b m
+  made_multiple m h = record {
+    left = (let P : ℕ → Type 0 = λ n. a ∣ n in subst P (sym h) (dvd-mul_right a d));
+    right = (let P : ℕ → Type 0 = λ n. b ∣ n in subst P (e ∙ sym h) (dvd-mul_left b t));
+    least = λ k p q. let P : ℕ → Type 0 = λ n. n ∣ k in subst P (sym h) (multiple_least k p q);
+  }
+
+  pub multiple_exceeds : (most m : ℕ) → most < a * d → 0 < m → a ∣ m → b ∣ m → most < m
+  multiple_exceeds most m over positive p q = let l = le_of_dvd positive (multiple_least m p q) in omega arith
+
+  pub factor_exceeds : (most m : ℕ) → most < d → 0 < m → a ∣ m → b ∣ m → most < m
+  factor_exceeds most m over = let l = mul-le-mul_right d some in multiple_exceeds most m (omega arith)
+
 -- ---- whole numbers
 
 pub divides_refl : (a : ℤ) → Divides a a
@@ -157,6 +194,12 @@ greatest_of_magnitudes a b g h = record {
   not_negative = omega (arith, ints);
 }
 
+pub greatest_of_sizes : (a b : ℤ) (m n g : ℕ) (z : ℤ) → m ≡ unsigned_abs a → n ≡ unsigned_abs b → IsGcd m n g → z ≡ pos g → IsGreatestCommonDivisor a b z
+greatest_of_sizes a b m n g z p q h e =
+    let both = subst (λ x. IsGcd x (unsigned_abs b) g) p (subst (λ y. IsGcd m y g) q h) in
+    let P : ℤ → Type 0 = λ x. IsGreatestCommonDivisor a b x in
+    subst P (sym e) (greatest_of_magnitudes a b g both)
+
 pub magnitudes_of_greatest : (a b : ℤ) (g : ℕ) → IsGreatestCommonDivisor a b (pos g) → IsGcd (unsigned_abs a) (unsigned_abs b) g
 magnitudes_of_greatest a b g h = (
   dvd_of_divides (pos g) a h.divides_left,
@@ -169,3 +212,27 @@ pub greatest_is_one : (a b g h : ℤ) → IsGreatestCommonDivisor a b g → IsGr
 greatest_is_one a b g h p q =
     let e = same_magnitude g h (q.greatest g p.divides_left p.divides_right) (p.greatest h q.divides_left q.divides_right) in
     omega (arith, ints)
+
+-- ---- quotients
+
+rem_of_divides : (a d : ℤ) → Divides d a → int_rem a d ≡ pos 0
+rem_of_divides (pos a) d p = ap pos (mod-eq-zero_of_dvd (unsigned_abs d) (dvd_of_divides d (pos a) p))
+rem_of_divides (negsuc a) d p = ap (λ n. neg_ℤ (pos n)) (mod-eq-zero_of_dvd (unsigned_abs d) (dvd_of_divides d (negsuc a) p))
+
+-- the quotient by a divisor is exact
+pub div-mul_of_divides : (a d : ℤ) → Divides d a → int_div a d *ℤ d ≡ a
+div-mul_of_divides a d p = let whole = quot-rem a d in let rest = rem_of_divides a d p in omega (arith, ints)
+
+-- and its magnitude is at most the number's
+pub unsigned_abs-div_le : (a d : ℤ) → d ≢ pos 0 → Divides d a → unsigned_abs (int_div a d) ≤ unsigned_abs a
+unsigned_abs-div_le a d some p =
+    let e : unsigned_abs (int_div a d) * unsigned_abs d ≡ unsigned_abs a = sym (unsigned_abs-mul (int_div a d) d) ∙ ap unsigned_abs (div-mul_of_divides a d p) in
+    let one : 1 ≤ unsigned_abs d = omega (arith, ints) in
+    omega (arith, mul-le-mul_left (unsigned_abs (int_div a d)) one)
+
+-- what the code's `a / d` gives
+pub exact_quotient : (w : Width) (a d : ℤ) → unsigned_abs a < 2 ^ hbits w → unsigned_abs d < 2 ^ hbits w → d ≢ pos 0 → Divides d a → cast_signed w (cast_unsigned w (int_div (cast_signed w (cast_unsigned w a)) (cast_signed w (cast_unsigned w d)))) *ℤ d ≡ a
+exact_quotient w a d p q some h =
+    let size = unsigned_abs-div_le a d some h in
+    ap (λ x. x *ℤ d) (quot_is w a d (fits_signed_from_abs w a p) (fits_signed_from_abs w d q) (fits_signed_from_abs w (int_div a d) (omega arith)))
+    ∙ div-mul_of_divides a d h

@@ -1,13 +1,17 @@
 -- Fractions in lowest terms: made from magnitudes and a sign, and one for each value.
-use Rattle.std.proofs.Common.{◌≡◌, ℕ, ◌*◌, ◌^◌, ◌≤◌, ◌<◌, ◌⊎◌, ⊎_elim, true, false, refl, arith, ap, sym, ◌∙◌, subst}
-use Rattle.std.specs.Prelude.{ℤ, pos, negsuc, ◌*ℤ◌, ◌≢◌, unsigned_abs, int_lt}
-use Rattle.std.specs.Int.{IsGcd}
+use Rattle.std.proofs.Common.{List, length, take, get_or, ◌+◌, ◌≡◌, ℕ, ◌*◌, ◌^◌, ◌≤◌, ◌<◌, ◌⊎◌, ⊎_elim, true, false, refl, arith, ap, sym, ◌∙◌, subst}
+use Rattle.std.specs.Prelude.{ℤ, pos, negsuc, ◌*ℤ◌, ◌<ℤ◌, ◌≢◌, unsigned_abs, int_lt}
+use Rattle.std.specs.Int.{IsGcd, ◌∣◌}
+use Rattle.std.specs.List.{All}
+use Rattle.std.proofs.lemmas.List.{length-take, take-take, get_or-take}
+use Rattle.std.proofs.lemmas.List.Elements.{All-nil, All-take, All-more, All-weaker}
 use Rattle.std.proofs.lemmas.Int.{ints, unsigned_abs-mul}
-use Rattle.std.proofs.Math.Nat.{eq_of_mul-eq-mul_right}
+use Rattle.std.proofs.Math.Nat.{eq_of_mul-eq-mul_right, mul-pos, pos_of_dvd_of_pos, dvd-mul_right, dvd-mul_left}
 use Rattle.algebra.proofs.Products.{int_mul_assoc, int_mul_comm, int_neg_mul}
 use Rattle.algebra.proofs.Order.{int_eq_of_mul_right}
-use Rattle.numbers.specs.Fractions.{Fraction, IsLowest, IsReduced, HasValue, HasFraction, AreLowest, HasSign}
-use Rattle.numbers.proofs.DivisorsLemmas.{greatest_of_magnitudes, magnitudes_of_greatest, same_lowest}
+use Rattle.numbers.specs.Divisors.{Divides, IsLeastCommonMultiple}
+use Rattle.numbers.specs.Fractions.{Fraction, IsLowest, IsReduced, HasValue, HasFraction, AreLowest, HasSign, IsLeastCommonDenominator}
+use Rattle.numbers.proofs.DivisorsLemmas.{one_divides, divides_trans, divides_of_dvd, dvd_of_divides, greatest_of_magnitudes, magnitudes_of_greatest, same_lowest}
 
 not_below : (n : ℕ) → int_lt (pos n) (pos 0) ≡ false
 not_below n = let e : false ≡ int_lt (pos n) (pos 0) = omega (arith, ints) in sym e
@@ -88,3 +92,54 @@ same_value_fraction f g z w p q u v =
     let left : f.num *ℤ g.den *ℤ w ≡ z *ℤ f.den *ℤ g.den = swap_last f.num g.den w ∙ ap (λ x. x *ℤ g.den) u.same in
     let right : g.num *ℤ f.den *ℤ w ≡ z *ℤ g.den *ℤ f.den = swap_last g.num f.den w ∙ ap (λ x. x *ℤ f.den) v.same in
     same_lowest_fraction f g p q (int_eq_of_mul_right (f.num *ℤ g.den) (g.num *ℤ f.den) w u.defined (left ∙ swap_last z f.den g.den ∙ sym right))
+
+-- ---- common denominators
+
+pub common_of_none : (xs : List Fraction) → IsLeastCommonDenominator (take 0 xs) (pos 1)
+common_of_none xs = record {
+  positive = omega (arith, ints);
+  common = All-nil (λ f. Divides f.den (pos 1));
+  least = λ k h. one_divides k;
+}
+
+-- what holds of the front of a list and one more element
+front : (P : Fraction → Type 0) (xs : List Fraction) (i : ℕ) (d : Fraction) → i < length xs → All P (take (i + 1) xs) → All P (take i xs) × P (get_or xs i d)
+front P xs i d l h =
+    let Q : List Fraction → Type 0 = λ ys. All P ys in
+    let long : i < length (take (i + 1) xs) = omega (arith, length-take (i + 1) xs) in (
+      subst Q (take-take i (i + 1) xs (omega arith)) (All-take P i (take (i + 1) xs) h),
+      subst P (get_or-take (i + 1) xs i d (omega arith)) (h i d long),
+    )
+
+-- c is the least common denominator of the first i fractions, s is the next denominator, f
+module _ (xs : List Fraction) (i c s : ℕ) (f : Fraction) (l : i < length xs) (here : f ≡ get_or xs i f) (den : pos s ≡ f.den) (some : 0 < s) (h : IsLeastCommonDenominator (take i xs) (pos c)) where
+  magnitudes : (k : ℤ) → All (λ x. Divides x.den k) (take (i + 1) xs) → (c ∣ unsigned_abs k) × (s ∣ unsigned_abs k)
+  magnitudes k all =
+      let parts = front (λ x. Divides x.den k) xs i f l all in
+      let P : Fraction → Type 0 = λ x. Divides x.den k in
+      let D : ℤ → Type 0 = λ x. Divides x k in (
+        dvd_of_divides (pos c) k (h.least k parts.0),
+        dvd_of_divides (pos s) k (subst D (sym den) (subst P (sym here) parts.1)),
+      )
+
+  pub common_more : (m : ℕ) → IsLeastCommonMultiple c s m → IsLeastCommonDenominator (take (i + 1) xs) (pos m)
+  common_more m g =
+      let one = h.positive in
+      let base : 0 < c = omega (arith, ints) in
+      let product : 0 < c * s = mul-pos base some in
+      let positive = pos_of_dvd_of_pos (g.least (c * s) (dvd-mul_right c s) (dvd-mul_left s c)) product in
+      let P : Fraction → Type 0 = λ x. Divides x.den (pos m) in
+      let D : ℤ → Type 0 = λ x. Divides x (pos m) in
+      record {
+        positive = omega (arith, ints);
+        common = All-more P xs i f l (All-weaker (λ x. Divides x.den (pos c)) P (λ x p. divides_trans x.den (pos c) (pos m) p (divides_of_dvd (pos c) (pos m) g.left)) (take i xs) h.common) (subst P here (subst D den (divides_of_dvd (pos s) (pos m) g.right)));
+        least = λ k all. let q = magnitudes k all in divides_of_dvd (pos m) k (g.least (unsigned_abs k) q.0 q.1);
+      }
+
+  pub common_exceeds : (most : ℕ) → ((m : ℕ) → 0 < m → c ∣ m → s ∣ m → most < m) → (m : ℤ) → IsLeastCommonDenominator xs m → pos most <ℤ m
+  common_exceeds most over m g =
+      let one = g.positive in
+      let size : 0 < unsigned_abs m = omega (arith, ints) in
+      let q = magnitudes m (All-take (λ x. Divides x.den m) (i + 1) xs g.common) in
+      let more = over (unsigned_abs m) size q.0 q.1 in
+      omega (arith, ints)

@@ -1,2 +1,3 @@
 pub mod DivisorsLemmas
 pub mod FractionsLemmas
+pub mod WholeLemmas

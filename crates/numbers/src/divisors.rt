@@ -1,9 +1,11 @@
-ghost use Rattle.std.specs.Prelude.{◌≡◌, ◌*◌, ◌<◌};
-ghost use Rattle.std.specs.Int.{IsGcd};
+ghost use Rattle.std.specs.Prelude.{◌≡◌, ◌*◌, ℕ, ◌^◌, ◌≤◌, ◌<◌, max, IfSome, IsNone};
+ghost use Rattle.std.specs.Int.{IsGcd, ◌∣◌};
+ghost use Rattle.numbers.specs.Divisors.{IsLeastCommonMultiple};
 
 /// The greatest common divisor of two numbers below 2^64.
 pub(crate) fn gcd_word(a: u64, b: u64) -> u64
-    ensures { IsGcd a b result }
+    ensures greatest { IsGcd a b result }
+    ensures within { result ≤ max a b }
 {
     if a == 0 {
         return b;
@@ -23,8 +25,12 @@ pub(crate) fn gcd_word(a: u64, b: u64) -> u64
 
 /// The greatest common divisor; as soon as both numbers are below 2^64 it divides 64-bit numbers.
 pub(crate) fn gcd_wide(a: u128, b: u128) -> u128
-    ensures { IsGcd a b result }
+    ensures greatest { IsGcd a b result }
+    ensures within { result ≤ max a b }
 {
+    if a <= GREATEST_WORD && b <= GREATEST_WORD {
+        return gcd_word(a as u64, b as u64) as u128;
+    }
     if a == 0 {
         return b;
     }
@@ -44,7 +50,8 @@ pub(crate) fn gcd_wide(a: u128, b: u128) -> u128
     if y == 1 {
         return 1;
     }
-    gcd_word(y as u64, (x % y) as u64) as u128
+    let divisor = gcd_word(y as u64, (x % y) as u64);
+    divisor as u128
 }
 
 /// Both numbers divided by their greatest common divisor.
@@ -56,6 +63,37 @@ pub(crate) fn lowest_terms(a: u128, b: u128) -> (u128, u128)
 {
     let divisor = gcd_wide(a, b);
     (a / divisor, b / divisor)
+}
+
+/// The least common multiple; `None` exactly where it exceeds `most`.
+pub(crate) fn multiple_within(a: u128, b: u128, most: u128) -> Option<u128>
+    requires positive { 0 < a }
+    requires low { a ≤ most }
+    requires other { 0 < b }
+    requires narrow { most < 2 ^ 64 }
+    ensures value { IfSome result (λ m. IsLeastCommonMultiple a b m) }
+    ensures within { IfSome result (λ m. m ≤ most) }
+    ensures exceeds { IsNone result → (m : ℕ) → 0 < m → a ∣ m → b ∣ m → most < m }
+{
+    let factor = lowest_terms(a, b).1;
+    if factor > most {
+        return None;
+    }
+    let multiple = product(a, factor);
+    if multiple <= most {
+        Some(multiple)
+    } else {
+        None
+    }
+}
+
+/// The product of two numbers below 2^64.
+fn product(a: u128, b: u128) -> u128
+    requires left { a < 2 ^ 64 }
+    requires right { b < 2 ^ 64 }
+    ensures { result ≡ a * b }
+{
+    a * b
 }
 
 /// The greatest number below 2^64.

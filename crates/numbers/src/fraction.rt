@@ -1,7 +1,7 @@
-ghost use Rattle.std.specs.Prelude.{◌≡◌, ◌↔◌, ℕ, ◌≢◌, ◌<◌, ◌^◌, pos, IsSome, IfSome, IfOk, string_bytes};
-ghost use Rattle.numbers.specs.Fractions.{AreLowest, HasSign};
+ghost use Rattle.std.specs.Prelude.{◌≡◌, ◌↔◌, ℕ, ◌≢◌, ◌<◌, ◌^◌, ℤ, pos, ◌≤ℤ◌, ◌<ℤ◌, IsSome, IsNone, IfSome, IfOk, string_bytes};
+ghost use Rattle.numbers.specs.Fractions.{AreLowest, HasSign, IsLeastCommonDenominator};
 
-use crate::divisors::lowest_terms;
+use crate::divisors::{lowest_terms, multiple_within};
 use std::alloc::{AllocError, Global};
 use std::marker::Model;
 
@@ -71,6 +71,37 @@ impl Frac {
         format!(in alloc; "{num}/{den}")
     }
 }
+
+/// The greatest common denominator that is asked for: 2^40.
+pub const GREATEST_DENOMINATOR: i128 = 1_099_511_627_776;
+
+/// The least common multiple of the denominators, 1 of none; `None` exactly where it exceeds `GREATEST_DENOMINATOR`.
+pub fn common_den(parts: &[Frac]) -> Option<i128>
+    ensures value { IfSome result (λ m. IsLeastCommonDenominator parts.now m) }
+    ensures within { IfSome result (λ m. m ≤ℤ GREATEST_DENOMINATOR) }
+    ensures exceeds { IsNone result
+        → (m : ℤ) → IsLeastCommonDenominator parts.now m → GREATEST_DENOMINATOR <ℤ m }
+{
+    let mut common = 1;
+    for part in parts {
+        let Some(next) = multiple_within(common, size_of_den(part), MOST) else {
+            return None;
+        };
+        common = next;
+    }
+    Some(common as i128)
+}
+
+/// The denominator without a sign.
+fn size_of_den(part: &Frac) -> u128
+    ensures value { pos result ≡ part.now.den }
+    ensures positive { 0 < result }
+{
+    part.den() as u128
+}
+
+/// `GREATEST_DENOMINATOR` without a sign.
+const MOST: u128 = GREATEST_DENOMINATOR as u128;
 
 /// The magnitudes of the lowest terms of `num/den`.
 fn lowest_magnitudes(num: i128, den: i128) -> (u128, u128)

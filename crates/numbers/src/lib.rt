@@ -4,5 +4,13 @@
 
 mod divisors;
 mod fraction;
+#[cfg(test)]
+mod tests;
+mod w128;
+mod w64;
+mod whole;
 
-pub use fraction::Frac;
+pub use fraction::{Frac, GREATEST_DENOMINATOR, common_den};
+pub use w64::W64;
+pub use w128::W128;
+pub use whole::Whole;

@@ -1,0 +1,98 @@
+ghost use Rattle.std.specs.Prelude.{◌≡◌, ◌↔◌, ℤ, ◌*ℤ◌, ◌^◌, ◌-◌, ◌≤◌, ◌<◌, IsTrue, unsigned_abs, refl};
+ghost use Rattle.std.proofs.Common.{arith, rules};
+
+use crate::divisors::gcd_wide;
+use crate::whole::Whole;
+use std::cmp::Ordering;
+
+/// The whole numbers of magnitude at most 2^127 - 1.
+#[derive(Clone, Copy, Debug)]
+pub struct W128 {
+    value: i128,
+    ghost in_range: { unsigned_abs value < 2 ^ 127 },
+}
+
+impl Whole for W128 {
+    ghost meaning = { λ x. x.value };
+
+    ghost greatest = { 2 ^ 127 - 1 };
+
+    fn of(v: i64) -> Option<W128> {
+        Some(W128 { value: v as i128 })
+    }
+
+    fn of_wide(v: i128) -> Option<W128> {
+        if v == i128::MIN {
+            None
+        } else {
+            Some(W128 { value: v })
+        }
+    }
+
+    fn wide(self) -> i128 {
+        self.value
+    }
+
+    fn times(self, other: W128) -> Option<W128> {
+        if is_word(self.value) && is_word(other.value) {
+            return Some(W128 {
+                value: word_product(self.value, other.value),
+            });
+        }
+        W128::of_wide(self.value.checked_mul(other.value)?)
+    }
+
+    fn plus(self, other: W128) -> Option<W128> {
+        W128::of_wide(self.value.checked_add(other.value)?)
+    }
+
+    fn minus(self, other: W128) -> Option<W128> {
+        W128::of_wide(self.value.checked_sub(other.value)?)
+    }
+
+    fn exact_part(self, divisor: W128) -> W128 {
+        W128 {
+            value: self.value / divisor.value,
+        }
+    }
+
+    fn gcd(self, other: W128) -> W128 {
+        let divisor = gcd_wide(self.value.unsigned_abs(), other.value.unsigned_abs());
+        W128 {
+            value: divisor as i128,
+        }
+    }
+
+    fn order(self, other: W128) -> Ordering {
+        self.value.cmp(&other.value)
+    }
+
+    ghost in_range = { λ x. Prim.search rules };
+
+    ghost holds_all = { λ z h. (record { value = z; in_range = Prim.omega arith }, refl) };
+
+    ghost at_least_one = { Prim.search rules };
+
+    ghost below_wide = { Prim.search rules };
+}
+
+/// Whether the magnitude is below 2^63, so that a product of two such numbers is in range.
+fn is_word(v: i128) -> bool
+    ensures { IsTrue result ↔ (unsigned_abs v < 2 ^ 63) }
+{
+    -WORD < v && v < WORD
+}
+
+/// The product of two numbers of magnitude below 2^63.
+#[tactic(auto, using(crate::proofs::WholeLemmas::word_product_fits))]
+fn word_product(a: i128, b: i128) -> i128
+    requires left { unsigned_abs a < 2 ^ 63 }
+    requires right { unsigned_abs b < 2 ^ 63 }
+    ensures value { result ≡ a *ℤ b }
+    ensures in_range { unsigned_abs result < 2 ^ 127 }
+{
+    a * b
+}
+
+/// 2^63.
+const WORD: i128 = 9_223_372_036_854_775_808;
