@@ -27,6 +27,7 @@ impl<'a, R: Files> Model for DiskStore<'a, R> {
 }
 
 impl<'a, R: Files> DiskStore<'a, R> {
+    /// The files of the runtime, with no faults so far.
     pub fn new(rt: &'a R) -> DiskStore<'a, R>
         ensures { result ≡ record { read = 0; write = 0 } }
     {

@@ -1,5 +1,5 @@
 // What a store in memory keeps of one name.
-ghost use Rattle.std.specs.Prelude.{◌≡◌, ℕ, ◌≤◌, ◌<◌, Bool, Option, Some, None, List, length, IfOk, OnOk, OnErr, IsSomeAnd, MatchOption, ⊤};
+ghost use Rattle.std.specs.Prelude.{◌≡◌, ◌≤◌, ◌<◌, Option, Some, None, length, IfOk, OnOk, OnErr, IsSomeAnd, MatchOption, ⊤};
 ghost use Rattle.std.specs.Bool.{OnTrue, OnFalse};
 ghost use Rattle.outside.specs.Entry.{NamedFile, unused, room_with, is_named};
 

@@ -1,5 +1,5 @@
 // A sink in memory, for tests: it fails where it is told to, and where its room is full.
-ghost use Rattle.std.specs.Prelude.{◌≡◌, ◌⊎◌, ℕ, ◌≤◌, ◌+◌, ◌++◌, [], length, Some, IfOk, OnOk, OnErr};
+ghost use Rattle.std.specs.Prelude.{◌≡◌, ◌⊎◌, ◌≤◌, ◌+◌, ◌++◌, [], length, Some, IfOk, OnOk, OnErr};
 ghost use Rattle.outside.specs.Calls.{FailsNext, next_call};
 
 use crate::calls::{count_call, count_fault, fails_at};
@@ -30,7 +30,7 @@ impl Model for MemSink {
 
 impl MemSink {
     /// A sink with nothing written, and room for so many bytes in all. Its puts are counted from 1,
-    /// and those with the numbers in `fails` fail.
+    /// and those with the numbers in `fails` fail. An error where memory ran out.
     pub fn new(alloc: Global, room: usize, fails: &[u64]) -> Result<MemSink, AllocError>
         ensures { IfOk result (λ sink. sink ≡ record { written = []; room = room; calls = 0; fails = fails.now; faults = 0 }) }
     {

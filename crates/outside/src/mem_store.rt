@@ -1,5 +1,5 @@
 // A store in memory, for tests: it fails where it is told to.
-ghost use Rattle.std.specs.Prelude.{◌≡◌, ◌⊎◌, ◌↔◌, ℕ, ◌≤◌, ◌^◌, ◌+◌, take, Some, None, option_map, IfOk, OnOk, OnErr, IsErr, IsOkUnless, IsErrOf};
+ghost use Rattle.std.specs.Prelude.{◌≡◌, ◌⊎◌, ◌↔◌, ◌≤◌, take, Some, None, option_map, IfOk, OnOk, OnErr, IsOkUnless, IsErrOf};
 ghost use Rattle.std.specs.FinMap.{empty, insert, get};
 ghost use Rattle.outside.specs.Calls.{FailsNext, next_call};
 ghost use Rattle.outside.specs.Entry.{room_with};
@@ -37,7 +37,7 @@ impl Model for MemStore {
 
 impl MemStore {
     /// A store without files. Its calls of `read` and `write` are counted together from 1, and those
-    /// with the numbers in `fails` fail.
+    /// with the numbers in `fails` fail. An error where memory ran out.
     pub fn new(alloc: Global, fails: &[u64]) -> Result<MemStore, AllocError>
         ensures { IfOk result (λ store. store ≡ record { files = empty; rooms = empty; calls = 0; fails = fails.now; read_faults = 0; write_faults = 0 }) }
     {
@@ -51,7 +51,8 @@ impl MemStore {
         })
     }
 
-    /// Makes the named file hold exactly the bytes. It isn't counted as a call, and makes no room.
+    /// Makes the named file hold exactly the bytes. It isn't counted as a call, and makes no room for
+    /// writes. An error where memory ran out, and then nothing has changed.
     pub fn file(&mut self, name: &str, bytes: &[u8]) -> Result<(), AllocError>
         ensures ok { OnOk result (self.new ≡ record self.old { files = insert self.old.files name.now bytes.now }) }
         ensures err { OnErr result (self.new ≡ self.old) }
@@ -59,7 +60,8 @@ impl MemStore {
         put_file(self.alloc, &mut self.entries, name, bytes)
     }
 
-    /// Makes room for writes of so many bytes to the named file. The room stays, and never shrinks.
+    /// Makes room for writes of so many bytes to the named file. The room stays for later writes, and
+    /// never shrinks. An error where memory ran out, and then nothing has changed.
     pub fn room(&mut self, name: &str, bytes: usize) -> Result<(), AllocError>
         ensures ok { OnOk result (self.new ≡ record self.old { rooms = insert self.old.rooms name.now (room_with (get self.old.rooms name.now) bytes) }) }
         ensures err { OnErr result (self.new ≡ self.old) }
