@@ -44,8 +44,10 @@ pub trait Store {
         ensures most { IfOk result (λ bytes. length bytes.items ≤ most) }
 
         ensures missing { IsErrOf result StoreErr.Missing → LacksFile (files self.old) name.now }
-        ensures missing_is_no_fault { IsErrOf result StoreErr.Missing → read_faults self.new ≡ read_faults self.old }
-        ensures failed { IsErrOf result StoreErr.Failed → HasRisen (read_faults self.old) (read_faults self.new) }
+        ensures missing_is_no_fault { IsErrOf result StoreErr.Missing →
+            read_faults self.new ≡ read_faults self.old }
+        ensures failed { IsErrOf result StoreErr.Failed →
+            HasRisen (read_faults self.old) (read_faults self.new) }
 
         ensures files { files self.new ≡ files self.old }
         ensures never_falls { read_faults self.old ≤ read_faults self.new }
