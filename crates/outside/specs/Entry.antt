@@ -9,6 +9,7 @@ use Rattle.std.specs.Ordering.{nat_cmp, eq_by_cmp}
 use Rattle.std.specs.Cmp.Lexicographic.{slice_cmp}
 use Rattle.std.specs.FinMap.{FinMap, empty, insert, remove}
 
+-- what is kept of one name
 pub record NamedFile : Type 0 where
   pub name : List ℕ
   pub file : Option (List ℕ)
@@ -22,6 +23,7 @@ unused name = record { name = name; file = None; room = None }
 abbrev pub room_with : Option ℕ → ℕ → ℕ
 room_with room bytes = max (unwrap_or room 0) bytes
 
+-- the entry has the name
 abbrev pub is_named : List ℕ → NamedFile → Bool
 is_named name entry = eq_by_cmp (slice_cmp nat_cmp) name entry.name
 
@@ -30,13 +32,16 @@ abbrev pub with_part : {V : Type 0} → FinMap (slice_cmp nat_cmp) V → List �
 with_part map name (Some value) = insert map name value
 with_part map name None = remove map name
 
+-- the map of what the first entry with each name has
 abbrev pub map_of : {V : Type 0} → (NamedFile → Option V) → List NamedFile → FinMap (slice_cmp nat_cmp) V
 map_of part [] = empty
 map_of part (entry ∷ entries) = with_part (map_of part entries) entry.name (part entry)
 
+-- the file of each name that has one
 abbrev pub files_of : List NamedFile → FinMap (slice_cmp nat_cmp) (List ℕ)
 files_of entries = map_of (λ entry. entry.file) entries
 
+-- the room made for each name for which some was made
 abbrev pub rooms_of : List NamedFile → FinMap (slice_cmp nat_cmp) ℕ
 rooms_of entries = map_of (λ entry. entry.room) entries
 
@@ -44,6 +49,7 @@ rooms_of entries = map_of (λ entry. entry.room) entries
 abbrev pub NoneBefore : List ℕ → List NamedFile → ℕ → Type 0
 NoneBefore name entries i = (k : ℕ) → k < i → is_named name (slice_index_or entries k (unused name)) ≡ false
 
+-- no entry has the name
 abbrev pub HasNone : List ℕ → List NamedFile → Type 0
 HasNone name entries = NoneBefore name entries (length entries)
 

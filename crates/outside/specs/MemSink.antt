@@ -6,6 +6,7 @@ use Rattle.std.specs.Prelude.{◌≡◌, ℕ, ◌+◌, ◌-◌, ◌<◌, List, �
 use Rattle.outside.specs.Calls.{FailsNext, next_call}
 use Rattle.outside.specs.Faults.{one_more}
 
+-- all that a sink in memory knows
 pub record MemorySink : Type 0 where
   -- what was put, in order
   pub written : List ℕ

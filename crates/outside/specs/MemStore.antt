@@ -12,6 +12,7 @@ use Rattle.outside.specs.Files.{Files}
 abbrev pub Rooms : Type 0
 Rooms = FinMap (slice_cmp nat_cmp) ℕ
 
+-- all that a store in memory knows
 pub record MemoryStore : Type 0 where
   pub files : Files
   pub rooms : Rooms

@@ -27,6 +27,7 @@ impl<'a, R: Files> Model for DiskStore<'a, R> {
 }
 
 impl<'a, R: Files> DiskStore<'a, R> {
+    /// The files of the runtime, with no faults so far.
     pub fn new(rt: &'a R) -> DiskStore<'a, R>
         ensures { result ≡ record { read = 0; write = 0 } }
     {
@@ -48,7 +49,8 @@ impl<'a, R: Files> Store for DiskStore<'a, R> {
     /// `Missing` where opening fails because there is no such file. Each other failure is a fault.
     fn read(&mut self, alloc: Global, name: &str, most: usize) -> Result<Vec<u8>, StoreErr>
         ensures most { IfOk result (λ bytes. length bytes.items ≤ most) }
-        ensures fault { IsErrOf result StoreErr.Failed → self.new ≡ record self.old { read = one_more self.old.read } }
+        ensures fault { IsErrOf result StoreErr.Failed →
+            self.new ≡ record self.old { read = one_more self.old.read } }
         ensures no_fault { ¬ IsErrOf result StoreErr.Failed → self.new ≡ self.old }
         ensures never_falls { self.old.read ≤ self.new.read }
         ensures write_faults { self.new.write ≡ self.old.write }
@@ -62,7 +64,8 @@ impl<'a, R: Files> Store for DiskStore<'a, R> {
 
     /// Makes the file where there is none. Each failure is a fault.
     fn write(&mut self, name: &str, bytes: &[u8]) -> Result<(), StoreErr>
-        ensures fault { OnErr result (self.new ≡ record self.old { write = one_more self.old.write }) }
+        ensures fault { OnErr result
+            (self.new ≡ record self.old { write = one_more self.old.write }) }
         ensures no_fault { OnOk result (self.new ≡ self.old) }
         ensures only_failed { IsOkUnless result StoreErr.Failed }
         ensures never_falls { self.old.write ≤ self.new.write }

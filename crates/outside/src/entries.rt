@@ -1,5 +1,5 @@
 // The entries of a store in memory, of which the first with a name decides what the store has of it.
-ghost use Rattle.std.specs.Prelude.{◌≡◌, ℕ, ◌≤◌, ◌<◌, length, IfOk, OnOk, OnErr, MatchOption, IsSomeAnd, None, Some};
+ghost use Rattle.std.specs.Prelude.{◌≡◌, ◌<◌, IfOk, OnOk, OnErr, MatchOption, None, Some};
 ghost use Rattle.std.specs.Bool.{OnTrue, OnFalse};
 ghost use Rattle.std.specs.FinMap.{get, insert};
 ghost use Rattle.std.specs.List.{position};
@@ -11,7 +11,8 @@ use std::alloc::{AllocError, Global};
 
 /// The bytes of the named file, where there is one.
 pub(crate) fn file_of<'a>(entries: &'a [Entry], name: &str) -> Option<&'a [u8]>
-    ensures { MatchOption result (get (files_of entries.now) name.now ≡ None) (λ bytes. get (files_of entries.now) name.now ≡ Some bytes.now) }
+    ensures { let file = get (files_of entries.now) name.now in
+        MatchOption result (file ≡ None) (λ bytes. file ≡ Some bytes.now) }
 {
     let place = place_of(entries, name)?;
     entries[place].file()
@@ -24,7 +25,8 @@ pub(crate) fn put_file(
     name: &str,
     bytes: &[u8],
 ) -> Result<(), AllocError>
-    ensures ok { OnOk result (files_of entries.new.items ≡ insert (files_of entries.old.items) name.now bytes.now) }
+    ensures ok { OnOk result
+        (files_of entries.new.items ≡ insert (files_of entries.old.items) name.now bytes.now) }
     ensures err { OnErr result (files_of entries.new.items ≡ files_of entries.old.items) }
     ensures rooms { rooms_of entries.new.items ≡ rooms_of entries.old.items }
 {
@@ -40,7 +42,9 @@ pub(crate) fn put_room(
     name: &str,
     bytes: usize,
 ) -> Result<(), AllocError>
-    ensures ok { OnOk result (rooms_of entries.new.items ≡ insert (rooms_of entries.old.items) name.now (room_with (get (rooms_of entries.old.items) name.now) bytes)) }
+    ensures ok { OnOk result
+        (let rooms = rooms_of entries.old.items in
+        rooms_of entries.new.items ≡ insert rooms name.now (room_with (get rooms name.now) bytes)) }
     ensures err { OnErr result (rooms_of entries.new.items ≡ rooms_of entries.old.items) }
     ensures files { files_of entries.new.items ≡ files_of entries.old.items }
 {
@@ -51,7 +55,8 @@ pub(crate) fn put_room(
 
 /// Makes the named file hold exactly the bytes, where they fit the room made for it.
 pub(crate) fn refill(entries: &mut Vec<Entry>, name: &str, bytes: &[u8]) -> bool
-    ensures done { OnTrue result (files_of entries.new.items ≡ insert (files_of entries.old.items) name.now bytes.now) }
+    ensures done { OnTrue result
+        (files_of entries.new.items ≡ insert (files_of entries.old.items) name.now bytes.now) }
     ensures fits { OnTrue result (FitsRoom (rooms_of entries.old.items) name.now bytes.now) }
     ensures left { OnFalse result (files_of entries.new.items ≡ files_of entries.old.items) }
     ensures lacks_room { OnFalse result (LacksRoom (rooms_of entries.old.items) name.now bytes.now) }

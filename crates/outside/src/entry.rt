@@ -1,5 +1,5 @@
 // What a store in memory keeps of one name.
-ghost use Rattle.std.specs.Prelude.{◌≡◌, ℕ, ◌≤◌, ◌<◌, Bool, Option, Some, None, List, length, IfOk, OnOk, OnErr, IsSomeAnd, MatchOption, ⊤};
+ghost use Rattle.std.specs.Prelude.{◌≡◌, ◌≤◌, ◌<◌, Option, Some, None, length, IfOk, OnOk, OnErr, IsSomeAnd, MatchOption, ⊤};
 ghost use Rattle.std.specs.Bool.{OnTrue, OnFalse};
 ghost use Rattle.outside.specs.Entry.{NamedFile, unused, room_with, is_named};
 
@@ -21,7 +21,11 @@ impl Model for Entry {
 
     ghost Value = { NamedFile };
 
-    ghost view = { λ e. record { name = string_bytes e.name; file = if e.is_file then Some e.bytes.items else None; room = e.room } };
+    ghost view = { λ e. record {
+      name = string_bytes e.name;
+      file = if e.is_file then Some e.bytes.items else None;
+      room = e.room;
+    } };
 
     ghost invariant = { λ e. IfSome e.room (λ room. room ≤ vec_capacity e.bytes) };
 }
@@ -69,7 +73,8 @@ impl Entry {
 
     /// Makes room for so many bytes, unless there is more.
     pub(crate) fn make_room(&mut self, bytes: usize) -> Result<(), AllocError>
-        ensures ok { OnOk result (self.new ≡ record self.old { room = Some (room_with self.old.room bytes) }) }
+        ensures ok { OnOk result
+            (self.new ≡ record self.old { room = Some (room_with self.old.room bytes) }) }
         ensures err { OnErr result (self.new ≡ self.old) }
     {
         let room = self.room.unwrap_or(0).max(bytes);

@@ -1,5 +1,5 @@
 // A sink in memory, for tests: it fails where it is told to, and where its room is full.
-ghost use Rattle.std.specs.Prelude.{◌≡◌, ◌⊎◌, ℕ, ◌≤◌, ◌+◌, ◌++◌, [], length, Some, IfOk, OnOk, OnErr};
+ghost use Rattle.std.specs.Prelude.{◌≡◌, ◌⊎◌, ◌≤◌, ◌+◌, ◌++◌, [], length, Some, IfOk, OnOk, OnErr};
 ghost use Rattle.outside.specs.Calls.{FailsNext, next_call};
 
 use crate::calls::{count_call, count_fault, fails_at};
@@ -23,16 +23,28 @@ impl Model for MemSink {
 
     ghost Value = { MemorySink };
 
-    ghost view = { λ s. record { written = s.written.items; room = s.room; calls = s.calls; fails = s.fails.items; faults = s.faults } };
+    ghost view = { λ s. record {
+      written = s.written.items;
+      room = s.room;
+      calls = s.calls;
+      fails = s.fails.items;
+      faults = s.faults;
+    } };
 
     ghost invariant = { λ s. (length s.written.items ≤ s.room) × (s.room ≤ vec_capacity s.written) };
 }
 
 impl MemSink {
     /// A sink with nothing written, and room for so many bytes in all. Its puts are counted from 1,
-    /// and those with the numbers in `fails` fail.
+    /// and those with the numbers in `fails` fail. An error where memory ran out.
     pub fn new(alloc: Global, room: usize, fails: &[u64]) -> Result<MemSink, AllocError>
-        ensures { IfOk result (λ sink. sink ≡ record { written = []; room = room; calls = 0; fails = fails.now; faults = 0 }) }
+        ensures { IfOk result (λ sink. sink ≡ record {
+          written = [];
+          room = room;
+          calls = 0;
+          fails = fails.now;
+          faults = 0;
+        }) }
     {
         Ok(MemSink {
             written: Vec::with_capacity(alloc, room)?,
@@ -68,8 +80,12 @@ impl Sink for MemSink {
     /// A put that is one of those that fail writes nothing. Any other that goes past the room fails
     /// and writes what fits.
     fn put(&mut self, bytes: &[u8]) -> Result<(), SinkFailed>
-        ensures ok { OnOk result (self.new ≡ record self.old { written = self.old.written ++ bytes.now; calls = next_call self.old.calls }) }
-        ensures fits { OnOk result (¬ FailsNext self.old.fails self.old.calls × (length self.old.written + length bytes.now ≤ self.old.room)) }
+        ensures ok { OnOk result (self.new ≡ record self.old {
+          written = self.old.written ++ bytes.now;
+          calls = next_call self.old.calls;
+        }) }
+        ensures fits { OnOk result (¬ FailsNext self.old.fails self.old.calls
+            × (length self.old.written + length bytes.now ≤ self.old.room)) }
 
         ensures failed { OnErr result (Refuses self.old self.new ⊎ Fills self.old bytes.now self.new) }
         ensures never_falls { self.old.faults ≤ self.new.faults }

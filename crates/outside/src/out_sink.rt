@@ -22,6 +22,7 @@ impl<'a, R: Print> Model for OutSink<'a, R> {
 }
 
 impl<'a, R: Print> OutSink<'a, R> {
+    /// The standard output of the runtime, with no faults so far.
     pub fn new(rt: &'a R) -> OutSink<'a, R>
         ensures { result ≡ 0 }
     {

@@ -16,7 +16,8 @@ pub(crate) fn read_whole<R: Read>(
     reader: &mut R,
     most: usize,
 ) -> Result<Vec<u8>, StoreErr>
-    ensures bytes { IfOk result (λ bytes. IfSome (R.remaining reader.old) (λ left. bytes.items ≡ take most left)) }
+    ensures bytes { IfOk result
+        (λ bytes. IfSome (R.remaining reader.old) (λ left. bytes.items ≡ take most left)) }
     ensures most { IfOk result (λ bytes. length bytes.items ≤ most) }
     ensures never_missing { IsErrOf result StoreErr.Missing → ⊥ }
 {
@@ -40,8 +41,10 @@ pub(crate) fn read_whole<R: Read>(
 
 /// Writes all the bytes, and flushes them. Where it fails, some of them were written, from their front.
 pub(crate) fn write_whole<W: Write>(writer: &mut W, bytes: &[u8]) -> Result<(), SinkFailed>
-    ensures written { OnOk result (Appends (W.contents writer.old) (W.contents writer.new) bytes.now) }
-    ensures cut { OnErr result ((n : ℕ) × (n ≤ length bytes.now) × Appends (W.contents writer.old) (W.contents writer.new) (take n bytes.now)) }
+    ensures written { OnOk result
+        (Appends (W.contents writer.old) (W.contents writer.new) bytes.now) }
+    ensures cut { OnErr result ((n : ℕ) × (n ≤ length bytes.now)
+        × Appends (W.contents writer.old) (W.contents writer.new) (take n bytes.now)) }
 {
     let mut done = 0;
     while done < bytes.len() {

@@ -1,5 +1,5 @@
 // What takes the bytes that are printed, as the code above sees it.
-ghost use Rattle.std.specs.Prelude.{◌≡◌, ℕ, ◌≤◌, Option, List, OnOk, OnErr};
+ghost use Rattle.std.specs.Prelude.{ℕ, ◌≤◌, Option, List, OnOk, OnErr};
 ghost use Rattle.outside.specs.Faults.{HasRisen};
 ghost use Rattle.outside.specs.Written.{GrewBy, GrewByPrefix};
 

@@ -1,5 +1,5 @@
 // A store of named files, as the code above sees it.
-ghost use Rattle.std.specs.Prelude.{◌≡◌, ℕ, ◌+◌, ◌^◌, ◌≤◌, Option, List, length, IfOk, IfErr, IsOkUnless, IsErrOf, OnOk, OnErr};
+ghost use Rattle.std.specs.Prelude.{◌≡◌, ℕ, ◌+◌, ◌^◌, ◌≤◌, Option, length, IfOk, IsOkUnless, IsErrOf, OnOk, OnErr};
 ghost use Rattle.outside.specs.declared.store.StoreErr.TheVariants.{NoMemory};
 ghost use Rattle.outside.specs.Faults.{HasRisen};
 ghost use Rattle.outside.specs.Files.{Files, FirstBytes, LacksFile, KeepsOrCuts, with_file};
@@ -13,7 +13,7 @@ pub enum StoreErr {
     Missing,
     /// The store failed, and counted a fault.
     Failed,
-    /// There is no memory for the answer.
+    /// Memory for the answer ran out.
     NoMemory,
 }
 
@@ -37,15 +37,17 @@ pub trait Store {
     ghost write_faults: { Self → ℕ };
 
     /// The first `most` bytes of the named file, or all where it is shorter. `Missing` where no file
-    /// has the name, `Failed` where the read failed, and `NoMemory` where the bytes find no room.
+    /// has the name, `Failed` where the read failed, and `NoMemory` where memory for the bytes ran out.
     fn read(&mut self, alloc: Global, name: &str, most: usize) -> Result<Vec<u8>, StoreErr>
         requires { most ≤ 2 ^ 26 + 1 }
         ensures bytes { IfOk result (λ bytes. FirstBytes (files self.old) name.now most bytes.items) }
         ensures most { IfOk result (λ bytes. length bytes.items ≤ most) }
 
         ensures missing { IsErrOf result StoreErr.Missing → LacksFile (files self.old) name.now }
-        ensures missing_is_no_fault { IsErrOf result StoreErr.Missing → read_faults self.new ≡ read_faults self.old }
-        ensures failed { IsErrOf result StoreErr.Failed → HasRisen (read_faults self.old) (read_faults self.new) }
+        ensures missing_is_no_fault { IsErrOf result StoreErr.Missing →
+            read_faults self.new ≡ read_faults self.old }
+        ensures failed { IsErrOf result StoreErr.Failed →
+            HasRisen (read_faults self.old) (read_faults self.new) }
 
         ensures files { files self.new ≡ files self.old }
         ensures never_falls { read_faults self.old ≤ read_faults self.new }

@@ -1,6 +1,10 @@
 use super::*;
-use std::fs;
+use crate::pieces::read_whole;
+use std::cell::Cell;
+use std::fmt::Display;
+use std::io::Read;
 use std::test::Fail;
+use std::{fs, io};
 
 // Room for what a test reads.
 const MOST: usize = 100;
@@ -138,5 +142,79 @@ fn the_standard_output_takes_bytes(rt: HostRuntime) -> Result<(), Fail> {
     let mut out = OutSink::new(&rt);
     assert_eq!(rt; out.put(b"put\n"), Ok(()));
     assert_eq!(rt; out.put(b""), Ok(()));
+    Ok(())
+}
+
+// A standard output that takes one byte a call, and after some bytes none.
+#[derive(Drop)]
+struct Slow {
+    taken: Cell<u64>,
+    room: Cell<u8>,
+}
+
+impl Print for Slow {
+    fn print<D: Display + Drop>(&self, _value: D) -> io::Result<()> {
+        Err(io::ErrorKind::Unsupported.into())
+    }
+
+    fn println<D: Display + Drop>(&self, _value: D) -> io::Result<()> {
+        Err(io::ErrorKind::Unsupported.into())
+    }
+
+    fn write_all(&self, _bytes: &[u8]) -> io::Result<()> {
+        Err(io::ErrorKind::Unsupported.into())
+    }
+
+    fn write_some(&self, bytes: &[u8]) -> io::Result<usize> {
+        let (Some(first), Some(room)) = (bytes.first(), self.room.get().checked_sub(1)) else {
+            return Ok(0);
+        };
+        self.room.set(room);
+        self.taken.set(self.taken.get() << 8 | u64::from(*first));
+        Ok(1)
+    }
+}
+
+#[test]
+fn a_slow_output_takes_all_bytes_in_order(rt: HostRuntime) {
+    let slow = Slow {
+        taken: Cell::new(0),
+        room: Cell::new(4),
+    };
+    let mut out = OutSink::new(&slow);
+    assert_eq!(rt; out.put(b"abc"), Ok(()));
+    assert_eq!(rt; slow.taken.get(), 0x61_62_63);
+    assert_eq!(rt; out.put(b"de"), Err(SinkFailed));
+    assert_eq!(rt; slow.taken.get(), 0x61_62_63_64);
+}
+
+// A file that gives one byte a call, and then fails.
+#[derive(Drop)]
+struct Broken {
+    left: u8,
+}
+
+impl Read for Broken {
+    fn read(&mut self, buf: &mut [u8]) -> io::Result<usize> {
+        if self.left == 0 {
+            return Err(io::ErrorKind::Other.into());
+        }
+        if buf.is_empty() {
+            return Ok(0);
+        }
+        self.left -= 1;
+        buf[0] = self.left;
+        Ok(1)
+    }
+}
+
+#[test]
+fn a_read_that_fails_on_the_way_fails(rt: HostRuntime) -> Result<(), Fail> {
+    let mut file = Broken { left: 3 };
+    assert_eq!(rt;
+        read_whole(rt.alloc(), &mut file, 2)?.as_slice(),
+        [2, 1].as_slice()
+    );
+    assert_eq!(rt; read_whole(rt.alloc(), &mut file, 2), Err(StoreErr::Failed));
     Ok(())
 }
