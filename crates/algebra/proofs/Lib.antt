@@ -1,0 +1,5 @@
+pub mod Products
+pub mod Order
+pub mod Magnitudes
+pub mod SumsLemmas
+mod Examples

@@ -1,0 +1,3 @@
+pub mod LogicLemmas
+pub mod NumberedLemmas
+pub mod FitsLemmas

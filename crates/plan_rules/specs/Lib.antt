@@ -1,0 +1,5 @@
+pub mod Plans
+pub mod Fits
+pub mod FitsByParts
+pub mod Rules
+pub mod Costs

@@ -1,0 +1,6 @@
+pub mod Numbered
+pub mod Heights
+pub mod Volumes
+pub mod Road
+pub mod Faults
+pub mod Accepted
