@@ -1,0 +1,4 @@
+pub mod FormLemmas
+pub mod RepeatLemmas
+pub mod WordLemmas
+pub mod FormLaws

@@ -1,0 +1,4 @@
+pub mod Forms
+pub mod Reading
+pub mod PlanText
+pub mod Plans

@@ -1,0 +1,10 @@
+//! The text of a plan, line by line: a reader that names the first line which isn't of its form, and the writer.
+//! A plan has one text, and what was written is taken in again, whatever follows it.
+#![tactic(auto)]
+
+mod error;
+mod form;
+mod read;
+mod rows;
+
+pub use error::TextErr;
