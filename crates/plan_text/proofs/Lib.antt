@@ -2,3 +2,5 @@ pub mod FormLemmas
 pub mod RepeatLemmas
 pub mod WordLemmas
 pub mod FormLaws
+pub mod SpellsLemmas
+pub mod PartLaws

@@ -1,8 +1,8 @@
 -- Keywords and spelled numbers are words: no byte of theirs parts words or ends a line.
-use Rattle.std.proofs.Common.{◌≡◌, ℕ, ℤ, pos, negsuc, suc, ◌+◌, ◌^◌, ◌<◌, ◌≤◌, Bool, true, false, List, [], ◌∷◌, ◌++◌, map, length, get_or, All, refl, sym, ap, ◌∙◌, ◌==◌, arith, append_assoc, eq-eqb}
-use Rattle.std.specs.List.{slice_split, join_with_byte}
+use Rattle.std.proofs.Common.{◌≡◌, ℕ, ℤ, pos, negsuc, suc, ◌+◌, ◌^◌, ◌<◌, ◌≤◌, Bool, true, false, not, List, [], ◌∷◌, ◌++◌, map, length, get_or, All, refl, sym, ap, ◌∙◌, ◌==◌, arith, append_assoc, eq-eqb}
+use Rattle.std.specs.List.{slice_split, join_with_byte, list_all}
 use Rattle.std.specs.Fmt.{decimal, signed_decimal}
-use Rattle.std.proofs.lemmas.Bool.{ne_eqb}
+use Rattle.std.proofs.lemmas.Bool.{ne_eqb, and_parts, not-true}
 use Rattle.std.proofs.lemmas.List.{get_or_default}
 use Rattle.std.proofs.lemmas.List.Elements.{All-nil, All-cons, All-head, All-tail, All-append}
 use Rattle.std.proofs.lemmas.List.Splits.{slice_split_at, slice_split_none}
@@ -70,3 +70,13 @@ join_lacks c d w (v ∷ ws) e h k =
 pub spelled_row-lacks : (keyword : List ℕ) (numbers : List ℤ) → IsWord keyword → All IsShort numbers → Lacks 10 (spelled_row keyword numbers)
 spelled_row-lacks keyword numbers w h =
     join_lacks 10 32 keyword (map signed_decimal numbers) refl w.no_line_feed (numbers_lack 10 numbers (omega arith) h)
+
+lacks_from_test : (c : ℕ) (bytes : List ℕ) → list_all (λ b. not (b == c)) bytes ≡ true → Lacks c bytes
+lacks_from_test c [] e = lacks_nil c
+lacks_from_test c (b ∷ bs) e =
+    let parts = and_parts (not (b == c)) (list_all (λ b. not (b == c)) bs) e in
+    lacks_cons c b bs (not-true (b == c) parts.0) (lacks_from_test c bs parts.1)
+
+-- a test of a keyword
+pub is_word : (bytes : List ℕ) → list_all (λ b. not (b == 32)) bytes ≡ true → list_all (λ b. not (b == 10)) bytes ≡ true → IsWord bytes
+is_word bytes s l = record { no_space = lacks_from_test 32 bytes s; no_line_feed = lacks_from_test 10 bytes l }
