@@ -4,3 +4,8 @@ pub mod WordLemmas
 pub mod FormLaws
 pub mod SpellsLemmas
 pub mod PartLaws
+pub mod TableLemmas
+pub mod PlanLaws
+pub mod WriteLemmas
+pub mod DueLaws
+pub mod AnswerLaws

@@ -194,3 +194,19 @@ stage_sound road before after s e =
     (subst (λ s. P s roads.1) given.0
     (took_then before cut.1 roads.1 _ _ c.0 (took_then cut.1 fill.1 roads.1 _ _ f.0 (took_then fill.1 right.1 roads.1 _ _ r.0 (took_then right.1 left.1 roads.1 _ _ l.0 q.0))),
     record { cut = c.1; fill = f.1; right = r.1; left = l.1; roads = q.1 }))
+
+stage_complete : (road : Road) (before : Reading) (at : ℕ) (s : Stage) (rest : List ℕ) → IsStageOf road s → before.left ≡ lines_of at (rows_text s ++ rest) → (after : Reading) × (place : ℕ) × (stage_due road before ≡ Ok (s, after)) × (after.left ≡ lines_of place rest)
+unfolding stage_due
+stage_complete road before at s rest h e =
+    let left_text = spelled_line (codes "left") s.left ++ spelled_line (codes "roads") s.roads in
+    let right_text = spelled_line (codes "right") s.right ++ left_text in
+    let fill_text = spelled_line (codes "fill") s.fill ++ right_text in
+    let c = (cut_spells road).complete before at s.cut (fill_text ++ rest) h.cut (e ∙ ap (lines_of at) (append_assoc (spelled_line (codes "cut") s.cut) fill_text rest)) in
+    let f = (fill_spells road).complete c.0 c.1 s.fill (right_text ++ rest) h.fill (c.3 ∙ ap (lines_of c.1) (append_assoc (spelled_line (codes "fill") s.fill) right_text rest)) in
+    let r = (right_spells road).complete f.0 f.1 s.right (left_text ++ rest) h.right (f.3 ∙ ap (lines_of f.1) (append_assoc (spelled_line (codes "right") s.right) left_text rest)) in
+    let l = (left_spells road).complete r.0 r.1 s.left (spelled_line (codes "roads") s.roads ++ rest) h.left (r.3 ∙ ap (lines_of r.1) (append_assoc (spelled_line (codes "left") s.left) (spelled_line (codes "roads") s.roads) rest)) in
+    let q = (roads_spells road).complete l.0 l.1 s.roads rest h.roads l.3 in
+    (q.0, q.1, rw (c.2, f.2, r.2, l.2, q.2) refl, q.3)
+
+pub stage_spells : (road : Road) → Spells (stage_due road) rows_text (IsStageOf road)
+stage_spells road = record { sound = stage_sound road; complete = stage_complete road }

@@ -41,7 +41,7 @@ pub then_ok : {A B : Type 0} (o : Result (A × Reading) ℕ) (next : A → Read 
 then_ok (Err line) next b after e = cc
 then_ok (Ok read) next b after e = (read.0, read.1, refl, e)
 
-ok_parts : {A : Type 0} (a b : A) (lines after : Reading) → give a lines ≡ give b after → (a ≡ b) × (lines ≡ after)
+pub ok_parts : {A : Type 0} (a b : A) (lines after : Reading) → give a lines ≡ give b after → (a ≡ b) × (lines ≡ after)
 ok_parts {A} a b lines after e =
     let pairs : (a, lines) ≡ (b, after) = cc in (ap (λ (p : A × Reading). p.0) pairs, ap (λ (p : A × Reading). p.1) pairs)
 

@@ -35,7 +35,11 @@ plan_text road plan =
     ++ (spelled_line (codes "open") (map pos plan.opens)
     ++ spelled_line (codes "end") [])))
 
+-- opening stages that a byte holds
+abbrev pub AreBytes : List ℕ → Type 0
+AreBytes opens = All (λ stage. stage < 2 ^ 8) opens
+
 -- a plan that has a text: it fits the road, and each opening is a byte, as in every plan of the program
 pub record HasText (road : Road) (plan : Plan) : Type 0 where
   pub fits : Fits road plan
-  pub openings : All (λ stage. stage < 2 ^ 8) plan.opens
+  pub openings : AreBytes plan.opens

@@ -4,7 +4,11 @@
 
 mod error;
 mod form;
+mod plan;
 mod read;
 mod rows;
+mod write;
 
 pub use error::TextErr;
+pub use plan::{read_plan, read_whole_plan};
+pub use write::write_plan;

@@ -1,6 +1,7 @@
 ghost use Rattle.std.specs.Prelude.{◌≡◌, ◌-◌, length};
 ghost use Rattle.text_parts.specs.Lines.{IsOfSource};
 ghost use Rattle.plan_text.specs.Reading.{Gives, repeat_due};
+ghost use Rattle.plan_text.specs.WholeText.{plan_of_text, GivesPlan};
 ghost use Rattle.plan_text.specs.Plans.{den_due, piece_due, stage_due, tables_due, opens_due, plan_due};
 
 use plan_rules::{Piece, Plan};
@@ -33,6 +34,21 @@ pub(crate) fn plan(alloc: Global, road: &Road, lines: &mut Lines) -> Result<Plan
         roads: tables.roads,
         opens,
     })
+}
+
+/// Reads the plan whose text the bytes are, to their last byte.
+#[tactic(auto, unfolding(crate::specs::WholeText::plan_of_text))]
+pub(crate) fn whole_plan(alloc: Global, road: &Road, bytes: &[u8]) -> Result<Plan, TextErr>
+    ensures { GivesPlan (plan_of_text road.now bytes.now) result }
+{
+    let mut lines = Lines::over(bytes);
+    let plan = plan(alloc, road, &mut lines)?;
+    if lines.next().is_some() {
+        return Err(TextErr::Bad {
+            line: lines.number(),
+        });
+    }
+    Ok(plan)
 }
 
 #[tactic(auto, unfolding(crate::specs::Plans::den_due))]
