@@ -1,5 +1,5 @@
 -- The lines of a text are its parts before each line feed, and a last part without one where it is not empty.
-use Rattle.std.specs.Prelude.{ℕ, ◌≡◌, ◌+◌, ◌≤◌, List, [], ◌∷◌, ◌++◌, length, Bool, true, false, if◌then◌else◌, slice_range}
+use Rattle.std.specs.Prelude.{ℕ, ◌≡◌, ◌+◌, ◌≤◌, List, [], ◌∷◌, ◌++◌, length, drop, Bool, true, false, if◌then◌else◌, slice_range}
 use Rattle.text_parts.specs.Words.{parts_between}
 
 -- the byte that ends a line
@@ -37,6 +37,11 @@ pub record Reading : Type 0 where
   pub source : List ℕ
   pub number : ℕ
   pub left : List TextLine
+
+-- the lines that are left are those of the source from some place on
+pub record IsOfSource (lines : Reading) : Type 0 where
+  pub place : ℕ
+  pub left_is : lines.left ≡ lines_of place (drop place lines.source)
 
 -- the bytes of a line, with the line feed that ended it
 abbrev pub bytes_of : TextLine → List ℕ

@@ -1,5 +1,5 @@
 ghost use Rattle.std.specs.Prelude.{◌≡◌, ◌<◌, ◌+◌, ◌^◌, List, [], ◌∷◌, MatchOption, IfSome, All};
-ghost use Rattle.text_parts.specs.Lines.{lines_of, IsSpanOf, end_of};
+ghost use Rattle.text_parts.specs.Lines.{lines_of, IsOfSource, IsSpanOf, end_of};
 
 use crate::cut::cut_at;
 use crate::line::Line;
@@ -44,6 +44,7 @@ impl<'a> Lines<'a> {
     pub fn next(&mut self) -> Option<Line<'a>>
         ensures given { GivesNext self.old result self.new }
         ensures span { IfSome result (IsSpanOf self.old.source) }
+        ensures of_source { IsOfSource self.old }
         ensures in_order { IfSome result (λ line. All (λ later. end_of line < later.start) self.new.left) }
     {
         let rest = &self.source[self.at..];

@@ -1,0 +1,11 @@
+pub mod FormLemmas
+pub mod RepeatLemmas
+pub mod WordLemmas
+pub mod FormLaws
+pub mod SpellsLemmas
+pub mod PartLaws
+pub mod TableLemmas
+pub mod PlanLaws
+pub mod WriteLemmas
+pub mod DueLaws
+pub mod AnswerLaws

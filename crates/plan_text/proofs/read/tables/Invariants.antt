@@ -1,0 +1,9 @@
+use Rattle.std.proofs.Common.{◌≡◌, ◌-◌}
+use Rattle.plan_text.specs.Reading.{repeat_due}
+use Rattle.plan_text.specs.Plans.{stage_due, tables_due}
+use Rattle.plan_text.proofs.RepeatLemmas.{with_stages}
+use Rattle.plan_text.proofs.read.tables.Given as goal
+
+abbrev pub invariant-loop-turn : goal.invariant-loop-turn
+invariant-loop-turn l =
+    tables_due l.road l.initial.lines ≡ with_stages l.cut.items l.fill.items l.right.items l.left.items l.roads.items (repeat_due (l.road.stages - l._turn) (stage_due l.road) l.lines)

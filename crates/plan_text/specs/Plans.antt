@@ -1,0 +1,73 @@
+-- The plan that the lines at the front spell, form after form.
+use Rattle.std.specs.Prelude.{ℕ, ◌≡◌, ◌+◌, ◌-◌, ◌^◌, zero, suc, List, [], ◌∷◌, ◌++◌, map, length, ℤ, pos, codes, Result, Ok, Err, slice_index_or, unsigned_abs}
+use Rattle.text_parts.specs.Lines.{TextLine, Reading, lines_of}
+use Rattle.road_types.specs.declared.road.Road.{Road}
+use Rattle.road_types.specs.Road.{section_count, segment_count, access_count, block_count}
+use Rattle.plan_rules.specs.declared.plan.Piece.{Piece}
+use Rattle.plan_rules.specs.declared.plan.Plan.{Plan}
+use Rattle.plan_text.specs.Forms.{Form, short_numbers}
+use Rattle.plan_text.specs.Reading.{Read, ◌>>=◌, give, then_read, numbers_due, repeat_due}
+use Rattle.plan_text.specs.declared.rows.Stage.{Stage}
+use Rattle.plan_text.specs.declared.rows.Tables.{Tables}
+
+-- the denominator is 1 to 2^40
+abbrev pub den_form : Form
+den_form = record { keyword = codes "plan"; count = 1; low = pos 1; high = pos (2 ^ 40) }
+
+abbrev pub piece_form : Form
+piece_form = short_numbers (codes "piece") 3
+
+-- an opening stage is a byte
+abbrev pub opens_form : ℕ → Form
+opens_form blocks = record { keyword = codes "open"; count = blocks; low = pos 0; high = pos 255 }
+
+abbrev pub end_form : Form
+end_form = short_numbers (codes "end") 0
+
+-- the number in a list of at least so many
+abbrev pub nth : List ℤ → ℕ → ℤ
+nth numbers i = slice_index_or numbers i (pos 0)
+
+unfoldable pub den_due : Read ℤ
+den_due = do
+  numbers ← numbers_due den_form
+  give (nth numbers 0)
+
+unfoldable pub piece_due : Read Piece
+piece_due = do
+  numbers ← numbers_due piece_form
+  give (record { a = nth numbers 0; b = nth numbers 1; c = nth numbers 2 })
+
+unfoldable pub opens_due : ℕ → Read (List ℕ)
+opens_due blocks = do
+  numbers ← numbers_due (opens_form blocks)
+  give (map unsigned_abs numbers)
+
+-- the five lines of a stage
+unfoldable pub stage_due : Road → Read Stage
+stage_due road = do
+  cut ← numbers_due (short_numbers (codes "cut") (section_count road))
+  fill ← numbers_due (short_numbers (codes "fill") (section_count road))
+  right ← numbers_due (short_numbers (codes "right") (section_count road - 1))
+  left ← numbers_due (short_numbers (codes "left") (section_count road - 1))
+  roads ← numbers_due (short_numbers (codes "roads") (access_count road))
+  give (record { cut = cut; fill = fill; right = right; left = left; roads = roads })
+
+-- the tables whose rows these are
+abbrev pub tables_by_stage : List Stage → Tables
+tables_by_stage stages =
+    record { cut = map (λ s. s.cut) stages; fill = map (λ s. s.fill) stages; right = map (λ s. s.right) stages; left = map (λ s. s.left) stages; roads = map (λ s. s.roads) stages }
+
+unfoldable pub tables_due : Road → Read Tables
+tables_due road = do
+  stages ← repeat_due road.stages (stage_due road)
+  give (tables_by_stage stages)
+
+unfoldable pub plan_due : Road → Read Plan
+plan_due road = do
+  den ← den_due
+  pieces ← repeat_due (segment_count road) piece_due
+  tables ← tables_due road
+  opens ← opens_due (block_count road)
+  nothing ← numbers_due end_form
+  give (record { den = den; pieces = pieces; cut = tables.cut; fill = tables.fill; right = tables.right; left = tables.left; roads = tables.roads; opens = opens })

@@ -1,0 +1,135 @@
+ghost use Rattle.std.specs.Prelude.{◌≡◌, IfOk};
+ghost use Rattle.text_parts.specs.Lines.{IsOfSource};
+ghost use Rattle.plan_text.specs.Forms.{AreOfForm, line_numbers, number_of, short_numbers, so_many};
+ghost use Rattle.plan_text.specs.Reading.{Gives, numbers_due};
+ghost use Rattle.plan_text.specs.Plans.{den_form, piece_form, opens_form, end_form};
+
+use road_types::Listed;
+use std::alloc::{AllocError, Global};
+use std::marker::Model;
+use text_parts::{Line, Lines, whole};
+
+use crate::error::TextErr;
+
+/// The greatest plan denominator.
+const DENOMINATOR_MOST: i128 = 1 << 40;
+
+/// The greatest number of thirty digits.
+const SHORT_MOST: i128 = 999_999_999_999_999_999_999_999_999_999;
+
+/// The form of a line: a keyword, and so many numbers within a range, each behind one space.
+#[derive(Drop)]
+pub(crate) struct Form<'a> {
+    keyword: &'a [u8],
+    count: usize,
+    low: i128,
+    high: i128,
+}
+
+impl<'a> Model for Form<'a> {
+    ghost use Rattle.plan_text.specs.Forms.{Form as FormOf};
+
+    ghost Value = { FormOf };
+
+    ghost view = { λ f. record { keyword = f.keyword.now; count = f.count; low = f.low; high = f.high } };
+}
+
+impl<'a> Form<'a> {
+    /// A keyword and so many numbers of at most thirty digits.
+    pub(crate) fn short_numbers(keyword: &'a [u8], count: usize) -> Form<'a>
+        ensures { result ≡ short_numbers keyword.now count }
+    {
+        Form {
+            keyword,
+            count,
+            low: -SHORT_MOST,
+            high: SHORT_MOST,
+        }
+    }
+
+    /// The denominator.
+    pub(crate) fn denominator() -> Form<'static>
+        ensures { result ≡ den_form }
+    {
+        Form {
+            keyword: b"plan",
+            count: 1,
+            low: 1,
+            high: DENOMINATOR_MOST,
+        }
+    }
+
+    /// The openings of so many blocks.
+    pub(crate) fn openings(blocks: usize) -> Form<'static>
+        ensures { result ≡ opens_form blocks }
+    {
+        Form {
+            keyword: b"open",
+            count: blocks,
+            low: 0,
+            high: 255,
+        }
+    }
+
+    /// The number that a word spells, if it is within the range.
+    #[tactic(auto, unfolding(crate::specs::Forms::number_of))]
+    fn number(&self, word: &[u8]) -> Option<i128>
+        ensures { result ≡ number_of self.now word.now }
+    {
+        let number = whole(word)?;
+        if self.low <= number && number <= self.high {
+            Some(number)
+        } else {
+            None
+        }
+    }
+
+    /// The numbers of a line, if it ends and is of this form.
+    #[tactic(auto, unfolding(crate::specs::Forms::line_numbers))]
+    pub(crate) fn numbers(&self, alloc: Global, line: &Line) -> Result<Option<Listed<i128>>, AllocError>
+        ensures { IfOk result (λ numbers. numbers ≡ line_numbers self.now line.now) }
+    {
+        if !line.ended() {
+            return Ok(None);
+        }
+        let mut words = line.words();
+        let Some(first) = words.next() else {
+            return Ok(None);
+        };
+        if first != self.keyword {
+            return Ok(None);
+        }
+        let mut numbers = Vec::new(alloc);
+        for word in words {
+            let Some(number) = self.number(word) else {
+                return Ok(None);
+            };
+            numbers.push(number)?;
+        }
+        if numbers.len() == self.count {
+            Ok(Some(Listed::new(numbers)))
+        } else {
+            Ok(None)
+        }
+    }
+
+    /// Reads the numbers of the next line, which is to be of this form.
+    #[tactic(auto, unfolding(crate::specs::Reading::numbers_due))]
+    pub(crate) fn read(&self, alloc: Global, lines: &mut Lines) -> Result<Listed<i128>, TextErr>
+        ensures due { Gives (numbers_due self.now lines.old) result lines.new }
+        ensures of_source { IsOfSource lines.old }
+        ensures numbers { IfOk result (λ numbers. AreOfForm self.now numbers) }
+    {
+        let Some(line) = lines.next() else {
+            return Err(TextErr::Bad {
+                line: lines.number() + 1,
+            });
+        };
+        match self.numbers(alloc, &line)? {
+            Some(numbers) => Ok(numbers),
+            None => Err(TextErr::Bad {
+                line: lines.number(),
+            }),
+        }
+    }
+}
