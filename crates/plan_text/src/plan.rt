@@ -9,13 +9,12 @@ ghost use Rattle.plan_text.specs.Reading.{Gives};
 ghost use Rattle.plan_text.specs.Taken.{Took};
 ghost use Rattle.plan_text.specs.WholeText.{plan_of_text, GivesPlan, IsPlanText};
 
+use crate::error::TextErr;
+use crate::read;
 use plan_rules::Plan;
 use road_types::Road;
 use std::alloc::Global;
 use text_parts::Lines;
-
-use crate::error::TextErr;
-use crate::read;
 
 /// Reads one plan text of the road from the front of the lines and leaves exactly the rest.
 /// `Bad` comes exactly where no front of the lines is one, with the number, by `Lines::number`, of the first line that isn't
