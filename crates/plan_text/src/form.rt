@@ -104,6 +104,9 @@ impl<'a> Form<'a> {
         }
         let mut numbers = Vec::new(alloc);
         for word in words {
+            if numbers.len() == self.count {
+                return Ok(None);
+            }
             let Some(number) = self.number(word) else {
                 return Ok(None);
             };
