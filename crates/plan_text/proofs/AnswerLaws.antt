@@ -1,7 +1,7 @@
 -- What the answer of a plan's reader says of the text.
-use Rattle.std.proofs.Common.{◌≡◌, ℕ, ◌+◌, Option, Some, None, Result, Ok, Err, MatchResult, IfOk, OnOk, List, [], ◌∷◌, ◌++◌, drop, refl, sym, ap, subst, ◌∙◌}
+use Rattle.std.proofs.Common.{◌≡◌, ℕ, Option, Some, None, Result, Ok, Err, MatchResult, IfOk, OnOk, List, [], ◌∷◌, ◌++◌, drop, refl, sym, ap, subst, ◌∙◌}
 use Rattle.std.proofs.lemmas.List.{append-nil}
-use Rattle.std.proofs.lemmas.Result.{MatchResult-at_err, MatchResult-at_ok}
+use Rattle.std.proofs.lemmas.Result.{MatchResult-at_err}
 use Rattle.text_parts.specs.Lines.{TextLine, Reading, lines_of, text_of, IsOfSource}
 use Rattle.text_parts.proofs.LinesLemmas.{text_of-lines_of}
 use Rattle.road_types.specs.declared.road.Road.{Road}
@@ -11,7 +11,7 @@ use Rattle.plan_text.specs.declared.error.TextErr.TheVariants.{Bad, NoMemory}
 use Rattle.plan_text.specs.Reading.{Gives}
 use Rattle.plan_text.specs.Taken.{Took}
 use Rattle.plan_text.specs.Answers.{IfBad, StartsWithPlan, StandsApart}
-use Rattle.plan_text.specs.Due.{forms_due, anything, nothing, misfit_or, first_misfit, refused_line}
+use Rattle.plan_text.specs.Due.{anything, nothing, first_misfit, refused_line}
 use Rattle.plan_text.specs.PlanText.{plan_text, HasText}
 use Rattle.plan_text.specs.Plans.{plan_due}
 use Rattle.plan_text.specs.WholeText.{IsPlanText, start_of, with_nothing_left, whole_plan, plan_of_text, GivesPlan}

@@ -1,5 +1,5 @@
 -- A reader takes one line for each form due, and stops at the first that isn't of its form.
-use Rattle.std.proofs.Common.{◌≡◌, ℕ, ℤ, ◌+◌, ◌-◌, zero, suc, Bool, cond, Option, Some, None, Result, Ok, Err, MatchResult, List, [], ◌∷◌, ◌++◌, map, refl, sym, ap, subst, ◌∙◌, codes}
+use Rattle.std.proofs.Common.{◌≡◌, ℕ, ℤ, ◌+◌, ◌-◌, zero, suc, cond, Option, Some, None, Result, Ok, Err, MatchResult, List, [], ◌∷◌, ◌++◌, refl, ap, ◌∙◌, codes}
 use Rattle.std.specs.Option.{is_some}
 use Rattle.std.proofs.lemmas.Result.{MatchResult-weaker}
 use Rattle.text_parts.specs.Lines.{TextLine, Reading}
@@ -52,7 +52,7 @@ made_follows : {A B : Type 0} (read : Read A) (f : A → B) (forms : List Form) 
 made_follows read f forms r =
     record {
       follows = λ before others.
-      made_from (read before) f (λ lines. misfit_or forms others before.number before.left ≡ others lines.number lines.left) (λ line. misfit_or forms others before.number before.left ≡ Some line) (r.follows before others);
+          made_from (read before) f (λ lines. misfit_or forms others before.number before.left ≡ others lines.number lines.left) (λ line. misfit_or forms others before.number before.left ≡ Some line) (r.follows before others);
     }
 
 repeat_follows : {A : Type 0} (read : Read A) (forms : List Form) → Follows read forms → (n : ℕ) → Follows (repeat_due n read) (times n forms)

@@ -1,5 +1,5 @@
 -- A line is of a form with these numbers exactly where it ends and is spelled by the keyword and them.
-use Rattle.std.proofs.Common.{◌≡◌, ℕ, ℤ, ◌+◌, ◌≤ℤ◌, Bool, true, false, ◌&&◌, cond, Option, Some, None, List, [], ◌∷◌, ◌++◌, map, length, All, refl, sym, ap, ap₂, subst, ◌∙◌, ◌==◌, int_le, arith, eqb-true, eq-eqb}
+use Rattle.std.proofs.Common.{◌≡◌, ℕ, ℤ, ◌≤ℤ◌, Bool, true, false, ◌&&◌, cond, Option, Some, None, List, [], ◌∷◌, map, length, All, refl, sym, ap, ap₂, subst, ◌∙◌, ◌==◌, int_le, arith, eqb-true, eq-eqb}
 use Rattle.std.specs.Option.{option_map, option_and_then}
 use Rattle.std.specs.List.{join_with_byte}
 use Rattle.std.specs.Str.{bytes_eq}

@@ -9,3 +9,4 @@ pub mod PlanLaws
 pub mod WriteLemmas
 pub mod DueLaws
 pub mod AnswerLaws
+mod Examples

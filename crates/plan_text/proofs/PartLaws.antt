@@ -1,24 +1,24 @@
 -- The lines of a plan text, part by part, spell what they are read as.
-use Rattle.std.proofs.Common.{◌≡◌, ℕ, ℤ, pos, negsuc, ◌+◌, ◌-◌, ◌^◌, ◌<◌, ◌≤◌, ◌≤ℤ◌, zero, suc, Result, Ok, Err, List, [], ◌∷◌, ◌++◌, map, length, All, unsigned_abs, get_or, refl, sym, ap, ap₂, subst, ◌∙◌, arith, append_assoc, codes}
+use Rattle.std.proofs.Common.{◌≡◌, ℕ, ℤ, pos, negsuc, ◌-◌, ◌^◌, ◌<◌, ◌≤ℤ◌, Ok, List, [], ◌∷◌, ◌++◌, map, length, All, unsigned_abs, get_or, refl, ap, ap₂, subst, ◌∙◌, arith, append_assoc, codes}
 use Rattle.std.proofs.lemmas.Int.{ints}
-use Rattle.std.proofs.lemmas.List.{append-nil, length-map}
+use Rattle.std.proofs.lemmas.List.{length-map}
 use Rattle.std.proofs.lemmas.List.Elements.{All-nil, All-cons, All-head, All-tail}
 use Rattle.road_types.specs.declared.road.Road.{Road}
 use Rattle.road_types.specs.Road.{section_count, access_count}
 use Rattle.plan_rules.specs.declared.plan.Piece.{Piece}
-use Rattle.plan_rules.specs.Fits.{IsModerate, IsModeratePiece}
+use Rattle.plan_rules.specs.Fits.{IsModeratePiece}
 use Rattle.plan_rules.specs.FitsByParts.{IsModerateRow}
 use Rattle.plan_rules.proofs.FitsLemmas.{row_moderate, moderate_row}
 use Rattle.text_parts.specs.Decimal.{IsShort}
 use Rattle.text_parts.specs.Lines.{Reading, lines_of}
 use Rattle.plan_text.specs.declared.rows.Stage.{Stage}
-use Rattle.plan_text.specs.Forms.{Form, AreOfForm, short_numbers, greatest_short, spelled_line}
-use Rattle.plan_text.specs.Reading.{Read, then_read, ◌>>=◌, give, numbers_due}
+use Rattle.plan_text.specs.Forms.{AreOfForm, short_numbers, greatest_short, spelled_line}
+use Rattle.plan_text.specs.Reading.{Read, numbers_due}
 use Rattle.plan_text.specs.PlanText.{piece_text}
 use Rattle.plan_text.specs.Plans.{den_form, piece_form, opens_form, end_form, nth, den_due, piece_due, opens_due, stage_due}
 use Rattle.plan_text.specs.Taken.{Took}
 use Rattle.plan_text.proofs.WordLemmas.{IsWord, is_word}
-use Rattle.plan_text.proofs.SpellsLemmas.{Spells, row_spells, made_spells, then_ok, given_is, took_none, took_then}
+use Rattle.plan_text.proofs.SpellsLemmas.{Spells, row_spells, made_spells, then_ok, given_is, took_then}
 
 -- the same reader under another word for what fits
 pub refit_spells : {A : Type 0} (read : Read A) (text : A → List ℕ) (Fit Other : A → Type 0) → Spells read text Fit → ((a : A) → Fit a → Other a) → ((a : A) → Other a → Fit a) → Spells read text Other
@@ -48,12 +48,15 @@ den_spells =
     made_spells (numbers_due den_form) (spelled_line (codes "plan")) (AreOfForm den_form) (λ numbers. nth numbers 0) (λ den. den ∷ []) IsDenominator
     (row_spells den_form (is_word (codes "plan") refl refl))
     (λ numbers h. (one_number numbers h.count, record { from = h.low 0 (pos 0) (omega (arith, h.count)); to = h.high 0 (pos 0) (omega (arith, h.count)) }))
-    (λ den h. (refl, record {
-      count = refl;
-      low = All-cons (λ n. pos 1 ≤ℤ n) den [] h.from (All-nil (λ n. pos 1 ≤ℤ n));
-      high = All-cons (λ n. n ≤ℤ pos (2 ^ 40)) den [] h.to (All-nil (λ n. n ≤ℤ pos (2 ^ 40)));
-      short = All-cons IsShort den [] (den_short den h) (All-nil IsShort);
-    }))
+    (λ den h. (
+      refl,
+      record {
+        count = refl;
+        low = All-cons (λ n. pos 1 ≤ℤ n) den [] h.from (All-nil (λ n. pos 1 ≤ℤ n));
+        high = All-cons (λ n. n ≤ℤ pos (2 ^ 40)) den [] h.to (All-nil (λ n. n ≤ℤ pos (2 ^ 40)));
+        short = All-cons IsShort den [] (den_short den h) (All-nil IsShort);
+      },
+    ))
 
 -- short numbers are within their range
 short_low : (n : ℤ) → IsShort n → negsuc (greatest_short - 1) ≤ℤ n
@@ -125,15 +128,17 @@ openings_bytes (n ∷ ns) l h =
 bytes_of_form : (blocks : ℕ) (opens : List ℕ) → length opens ≡ blocks → All (λ stage. stage < 2 ^ 8) opens → AreOfForm (opens_form blocks) (map pos opens)
 bytes_of_form blocks opens e h = record { count = length-map opens pos ∙ e; low = low opens; high = high opens h; short = short opens h }
   where
-  low : (opens : List ℕ) → All (λ n. pos 0 ≤ℤ n) (map pos opens)
-  low [] = All-nil (λ n. pos 0 ≤ℤ n)
-  low (k ∷ ks) = All-cons (λ n. pos 0 ≤ℤ n) (pos k) (map pos ks) (omega (arith, ints)) (low ks)
-  high : (opens : List ℕ) → All (λ stage. stage < 2 ^ 8) opens → All (λ n. n ≤ℤ pos 255) (map pos opens)
-  high [] h = All-nil (λ n. n ≤ℤ pos 255)
-  high (k ∷ ks) h = All-cons (λ n. n ≤ℤ pos 255) (pos k) (map pos ks) (omega (arith, ints, All-head (λ stage. stage < 2 ^ 8) k ks h)) (high ks (All-tail (λ stage. stage < 2 ^ 8) k ks h))
-  short : (opens : List ℕ) → All (λ stage. stage < 2 ^ 8) opens → All IsShort (map pos opens)
-  short [] h = All-nil IsShort
-  short (k ∷ ks) h = All-cons IsShort (pos k) (map pos ks) (omega (arith, All-head (λ stage. stage < 2 ^ 8) k ks h)) (short ks (All-tail (λ stage. stage < 2 ^ 8) k ks h))
+    low : (opens : List ℕ) → All (λ n. pos 0 ≤ℤ n) (map pos opens)
+    low [] = All-nil (λ n. pos 0 ≤ℤ n)
+    low (k ∷ ks) = All-cons (λ n. pos 0 ≤ℤ n) (pos k) (map pos ks) (omega (arith, ints)) (low ks)
+
+    high : (opens : List ℕ) → All (λ stage. stage < 2 ^ 8) opens → All (λ n. n ≤ℤ pos 255) (map pos opens)
+    high [] h = All-nil (λ n. n ≤ℤ pos 255)
+    high (k ∷ ks) h = All-cons (λ n. n ≤ℤ pos 255) (pos k) (map pos ks) (omega (arith, ints, All-head (λ stage. stage < 2 ^ 8) k ks h)) (high ks (All-tail (λ stage. stage < 2 ^ 8) k ks h))
+
+    short : (opens : List ℕ) → All (λ stage. stage < 2 ^ 8) opens → All IsShort (map pos opens)
+    short [] h = All-nil IsShort
+    short (k ∷ ks) h = All-cons IsShort (pos k) (map pos ks) (omega (arith, All-head (λ stage. stage < 2 ^ 8) k ks h)) (short ks (All-tail (λ stage. stage < 2 ^ 8) k ks h))
 
 pub opens_spells : (blocks : ℕ) → Spells (opens_due blocks) (λ opens. spelled_line (codes "open") (map pos opens)) (AreOpenings blocks)
 unfolding opens_due
@@ -191,9 +196,10 @@ stage_sound road before after s e =
     let q = (roads_spells road).sound left.1 roads.1 roads.0 roads.2 in
     let P : Stage → Reading → Type 0 = λ s r. Took before r (rows_text s) × IsStageOf road s in
     subst (λ r. P s r) given.1
-    (subst (λ s. P s roads.1) given.0
-    (took_then before cut.1 roads.1 _ _ c.0 (took_then cut.1 fill.1 roads.1 _ _ f.0 (took_then fill.1 right.1 roads.1 _ _ r.0 (took_then right.1 left.1 roads.1 _ _ l.0 q.0))),
-    record { cut = c.1; fill = f.1; right = r.1; left = l.1; roads = q.1 }))
+    (subst (λ s. P s roads.1) given.0 (
+      took_then before cut.1 roads.1 _ _ c.0 (took_then cut.1 fill.1 roads.1 _ _ f.0 (took_then fill.1 right.1 roads.1 _ _ r.0 (took_then right.1 left.1 roads.1 _ _ l.0 q.0))),
+      record { cut = c.1; fill = f.1; right = r.1; left = l.1; roads = q.1 },
+    ))
 
 stage_complete : (road : Road) (before : Reading) (at : ℕ) (s : Stage) (rest : List ℕ) → IsStageOf road s → before.left ≡ lines_of at (rows_text s ++ rest) → (after : Reading) × (place : ℕ) × (stage_due road before ≡ Ok (s, after)) × (after.left ≡ lines_of place rest)
 unfolding stage_due

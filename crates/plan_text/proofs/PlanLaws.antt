@@ -1,20 +1,18 @@
 -- A plan is read from its text, whatever follows, and what is read has the text that was taken.
-use Rattle.std.proofs.Common.{◌≡◌, ℕ, ℤ, pos, ◌+◌, ◌-◌, ◌^◌, ◌<◌, zero, suc, Result, Ok, Err, List, [], ◌∷◌, ◌++◌, map, length, All, refl, sym, ap, subst, ◌∙◌, arith, append_assoc, codes}
+use Rattle.std.proofs.Common.{◌≡◌, ℕ, ℤ, pos, Ok, List, [], ◌∷◌, ◌++◌, map, length, All, refl, ap, subst, ◌∙◌, arith, append_assoc, codes}
 use Rattle.std.specs.List.{flat_map}
 use Rattle.std.proofs.lemmas.List.Elements.{All-nil}
 use Rattle.road_types.specs.declared.road.Road.{Road}
 use Rattle.road_types.specs.Road.{segment_count, block_count}
-use Rattle.plan_rules.specs.declared.plan.Piece.{Piece}
 use Rattle.plan_rules.specs.declared.plan.Plan.{Plan}
 use Rattle.plan_rules.specs.Fits.{IsModerate, IsModeratePiece}
 use Rattle.plan_rules.proofs.FitsLemmas.{fits_of_parts, pieces_of_fits, tables_of_fits, pieces_moderate, moderate_pieces, row_moderate}
 use Rattle.plan_rules.specs.FitsByParts.{IsModerateRow}
 use Rattle.text_parts.specs.Lines.{Reading, lines_of}
-use Rattle.plan_text.specs.declared.rows.Tables.{Tables}
 use Rattle.plan_text.specs.Forms.{spelled_line}
-use Rattle.plan_text.specs.Reading.{Read, repeat_due, numbers_due}
+use Rattle.plan_text.specs.Reading.{repeat_due}
 use Rattle.plan_text.specs.PlanText.{tables_of, piece_text, stages_text, plan_text, HasText}
-use Rattle.plan_text.specs.Plans.{piece_due, end_form, plan_due}
+use Rattle.plan_text.specs.Plans.{piece_due, plan_due}
 use Rattle.plan_text.specs.Taken.{Took}
 use Rattle.plan_text.proofs.SpellsLemmas.{Spells, repeat_spells, then_ok, given_is, took_then}
 use Rattle.plan_text.proofs.PartLaws.{IsDenominator, den_spells, piece_spells, AreOpenings, opens_spells, end_spells}
@@ -47,8 +45,8 @@ text_of_parts : (road : Road) (plan : Plan) → HasParts road plan → HasText r
 text_of_parts road plan h =
     record {
       fits = fits_of_parts road plan
-      (record { den_from = h.den.from; den_to = h.den.to; pieces_count = h.pieces_count; pieces = pieces_moderate plan.pieces h.pieces; opens = h.opens.count })
-      (record { cut = h.tables.cut; fill = h.tables.fill; right = h.tables.right; left = h.tables.left; roads = h.tables.roads });
+          (record { den_from = h.den.from; den_to = h.den.to; pieces_count = h.pieces_count; pieces = pieces_moderate plan.pieces h.pieces; opens = h.opens.count })
+          (record { cut = h.tables.cut; fill = h.tables.fill; right = h.tables.right; left = h.tables.left; roads = h.tables.roads });
       openings = h.opens.bytes;
     }
 
@@ -74,9 +72,10 @@ plan_sound road before after plan e =
     let ending = subst (λ numbers. Took opens.1 last.1 (spelled_line (codes "end") numbers)) (no_numbers last.0 l.1) l.0 in
     let P : Plan → Reading → Type 0 = λ plan r. Took before r (plan_text road plan) × HasText road plan in
     subst (λ r. P plan r) given.1
-    (subst (λ plan. P plan last.1) given.0
-    (took_then before den.1 last.1 _ _ d.0 (took_then den.1 pieces.1 last.1 _ _ p.0 (took_then pieces.1 tables.1 last.1 _ _ t.0 (took_then tables.1 opens.1 last.1 _ _ o.0 ending))),
-    text_of_parts road made (record { den = d.1; pieces_count = p.1.0; pieces = p.1.1; tables = t.1; opens = o.1 })))
+    (subst (λ plan. P plan last.1) given.0 (
+      took_then before den.1 last.1 _ _ d.0 (took_then den.1 pieces.1 last.1 _ _ p.0 (took_then pieces.1 tables.1 last.1 _ _ t.0 (took_then tables.1 opens.1 last.1 _ _ o.0 ending))),
+      text_of_parts road made (record { den = d.1; pieces_count = p.1.0; pieces = p.1.1; tables = t.1; opens = o.1 }),
+    ))
 
 no_row : IsModerateRow 0 []
 no_row = row_moderate 0 [] (refl, All-nil IsModerate)

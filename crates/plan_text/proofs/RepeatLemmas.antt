@@ -1,5 +1,5 @@
 -- Reading so many values one by one: what was read so far, before what the lines that are left give.
-use Rattle.std.proofs.Common.{◌≡◌, ℕ, ℤ, ◌+◌, zero, suc, List, [], ◌∷◌, ◌++◌, map, Result, Ok, Err, refl, sym, ap, ◌∙◌, append_assoc}
+use Rattle.std.proofs.Common.{◌≡◌, ℕ, ℤ, suc, List, [], ◌∷◌, ◌++◌, map, Result, Ok, Err, refl, sym, ap, ◌∙◌, append_assoc}
 use Rattle.std.proofs.lemmas.List.{append-nil}
 use Rattle.text_parts.specs.Lines.{Reading}
 use Rattle.road_types.specs.declared.road.Road.{Road}
@@ -55,9 +55,9 @@ pub stages_start : (road : Road) (n : ℕ) (lines : Reading) → road.stages ≡
 unfolding tables_due
 stages_start road n lines e = ap (λ k. then_read (repeat_due k (stage_due road) lines) (λ stages. give (tables_by_stage stages))) e ∙ go (repeat_due n (stage_due road) lines)
   where
-  go : (o : Result (List Stage × Reading) ℕ) → then_read o (λ stages. give (tables_by_stage stages)) ≡ with_stages [] [] [] [] [] o
-  go (Err line) = refl
-  go (Ok read) = refl
+    go : (o : Result (List Stage × Reading) ℕ) → then_read o (λ stages. give (tables_by_stage stages)) ≡ with_stages [] [] [] [] [] o
+    go (Err line) = refl
+    go (Ok read) = refl
 
 pub stages_step : (road : Road) (cut fill right left roads : List (List ℤ)) (n m : ℕ) (lines others : Reading) (s : Stage) → n ≡ suc m → stage_due road lines ≡ Ok (s, others) → with_stages cut fill right left roads (repeat_due n (stage_due road) lines) ≡ with_stages (cut ++ (s.cut ∷ [])) (fill ++ (s.fill ∷ [])) (right ++ (s.right ∷ [])) (left ++ (s.left ∷ [])) (roads ++ (s.roads ∷ [])) (repeat_due m (stage_due road) others)
 stages_step road cut fill right left roads n m lines others s e h =

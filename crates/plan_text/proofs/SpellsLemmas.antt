@@ -1,11 +1,10 @@
 -- A reader spells a value by a text: what is read is spelled so, and what is spelled so is read, whatever follows.
-use Rattle.std.proofs.Common.{◌≡◌, ℕ, ℤ, pos, ◌+◌, zero, suc, Bool, true, false, Option, Some, None, Result, Ok, Err, List, [], ◌∷◌, ◌++◌, map, length, All, refl, sym, ap, ap₂, subst, cond, ◌==◌, ◌∙◌, arith, append_assoc, length-append}
-use Rattle.std.specs.List.{flat_map, slice_split}
+use Rattle.std.proofs.Common.{◌≡◌, ℕ, ℤ, ◌+◌, zero, suc, Bool, true, Option, Some, None, Result, Ok, Err, List, [], ◌∷◌, ◌++◌, length, All, refl, sym, ap, ap₂, subst, cond, ◌==◌, ◌∙◌, arith, append_assoc, length-append}
+use Rattle.std.specs.List.{flat_map}
 use Rattle.std.proofs.lemmas.List.{append-nil}
 use Rattle.std.proofs.lemmas.List.Elements.{All-nil, All-cons, All-head, All-tail}
 use Rattle.std.proofs.lemmas.List.Splits.{slice_split_at}
 use Rattle.text_parts.specs.Decimal.{IsShort}
-use Rattle.text_parts.specs.Words.{parts_between}
 use Rattle.text_parts.specs.Lines.{TextLine, Reading, lines_of, bytes_of, text_of}
 use Rattle.text_parts.proofs.LinesLemmas.{lines_ended}
 use Rattle.plan_text.specs.Forms.{Form, AreOfForm, spelled_row, spelled_line, line_numbers}
@@ -85,10 +84,12 @@ row_spells form w =
     record {
       sound = λ before after numbers e. row_sound form before after before.left numbers refl e;
       complete = λ before at numbers rest h e.
-      let others = lines_of (at + length (spelled_row form.keyword numbers) + 1) rest in
-      (behind before others, at + length (spelled_row form.keyword numbers) + 1,
-      ap (λ left. next_numbers form left before) (e ∙ first_line at form.keyword numbers rest w h.short) ∙ ap (λ o. taken o (behind before others)) (is_line form at numbers w h),
-      refl);
+          let others = lines_of (at + length (spelled_row form.keyword numbers) + 1) rest in (
+            behind before others,
+            at + length (spelled_row form.keyword numbers) + 1,
+            ap (λ left. next_numbers form left before) (e ∙ first_line at form.keyword numbers rest w h.short) ∙ ap (λ o. taken o (behind before others)) (is_line form at numbers w h),
+            refl,
+          );
     }
 
 -- a value that is made of what is read
@@ -97,16 +98,16 @@ made_spells {A} {B} read text FitA f g FitB s there back =
     let next : A → Read B = λ a. give (f a) in
     record {
       sound = λ before after b e.
-      let first = then_ok (read before) next b after e in
-      let given = given_is (f first.0) b first.1 after first.3 in
-      let took = s.sound before first.1 first.0 first.2 in
-      let same = there first.0 took.1 in
-      let P : B → Reading → Type 0 = λ b r. Took before r (text (g b)) × FitB b in
-      subst (λ r. P b r) given.1 (subst (λ b. P b first.1) given.0 (subst (λ a. Took before first.1 (text a)) (sym same.0) took.0, same.1));
+          let first = then_ok (read before) next b after e in
+          let given = given_is (f first.0) b first.1 after first.3 in
+          let took = s.sound before first.1 first.0 first.2 in
+          let same = there first.0 took.1 in
+          let P : B → Reading → Type 0 = λ b r. Took before r (text (g b)) × FitB b in
+          subst (λ r. P b r) given.1 (subst (λ b. P b first.1) given.0 (subst (λ a. Took before first.1 (text a)) (sym same.0) took.0, same.1));
       complete = λ before at b rest h e.
-      let same = back b h in
-      let read' = s.complete before at (g b) rest same.1 e in
-      (read'.0, read'.1, ap (λ o. then_read o next) read'.2 ∙ ap (λ b. Ok (b, read'.0)) same.0, read'.3);
+          let same = back b h in
+          let read' = s.complete before at (g b) rest same.1 e in
+          (read'.0, read'.1, ap (λ o. then_read o next) read'.2 ∙ ap (λ b. Ok (b, read'.0)) same.0, read'.3);
     }
 
 none_read : {A : Type 0} (text : A → List ℕ) (before : Reading) (at : ℕ) (xs : List A) (rest : List ℕ) → length xs ≡ 0 → before.left ≡ lines_of at (flat_map text xs ++ rest) → (after : Reading) × (place : ℕ) × (give [] before ≡ Ok (xs, after)) × (after.left ≡ lines_of place rest)
@@ -127,25 +128,25 @@ pub repeat_spells : {A : Type 0} (read : Read A) (text : A → List ℕ) (Fit : 
 repeat_spells {A} read text Fit s zero =
     record {
       sound = λ before after xs e.
-      let given = given_is [] xs before after e in
-      let P : List A → Reading → Type 0 = λ xs r. Took before r (flat_map text xs) × ((length xs ≡ 0) × All Fit xs) in
-      subst (λ r. P xs r) given.1 (subst (λ xs. P xs before) given.0 (took_none before, (refl, All-nil Fit)));
+          let given = given_is [] xs before after e in
+          let P : List A → Reading → Type 0 = λ xs r. Took before r (flat_map text xs) × ((length xs ≡ 0) × All Fit xs) in
+          subst (λ r. P xs r) given.1 (subst (λ xs. P xs before) given.0 (took_none before, (refl, All-nil Fit)));
       complete = λ before at xs rest h e. none_read text before at xs rest h.0 e;
     }
 repeat_spells {A} read text Fit s (suc n) =
     let more = repeat_spells read text Fit s n in
     record {
       sound = λ before after xs e.
-      let next : A → Read (List A) = λ first. (repeat_due n read >>= (λ others. give (first ∷ others))) in
-      let first = then_ok (read before) next xs after e in
-      let last : List A → Read (List A) = λ others. give (first.0 ∷ others) in
-      let others = then_ok (repeat_due n read first.1) last xs after first.3 in
-      let given = given_is (first.0 ∷ others.0) xs others.1 after others.3 in
-      let one = s.sound before first.1 first.0 first.2 in
-      let many = more.sound first.1 others.1 others.0 others.2 in
-      let P : List A → Reading → Type 0 = λ xs r. Took before r (flat_map text xs) × ((length xs ≡ suc n) × All Fit xs) in
-      subst (λ r. P xs r) given.1
-      (subst (λ xs. P xs others.1) given.0
-      (took_then before first.1 others.1 (text first.0) (flat_map text others.0) one.0 many.0, (ap suc many.1.0, All-cons Fit first.0 others.0 one.1 many.1.1)));
+          let next : A → Read (List A) = λ first. (repeat_due n read >>= (λ others. give (first ∷ others))) in
+          let first = then_ok (read before) next xs after e in
+          let last : List A → Read (List A) = λ others. give (first.0 ∷ others) in
+          let others = then_ok (repeat_due n read first.1) last xs after first.3 in
+          let given = given_is (first.0 ∷ others.0) xs others.1 after others.3 in
+          let one = s.sound before first.1 first.0 first.2 in
+          let many = more.sound first.1 others.1 others.0 others.2 in
+          let P : List A → Reading → Type 0 = λ xs r. Took before r (flat_map text xs) × ((length xs ≡ suc n) × All Fit xs) in
+          subst (λ r. P xs r) given.1
+          (subst (λ xs. P xs others.1) given.0
+          (took_then before first.1 others.1 (text first.0) (flat_map text others.0) one.0 many.0, (ap suc many.1.0, All-cons Fit first.0 others.0 one.1 many.1.1)));
       complete = λ before at xs rest h e. more_read read text Fit s n more before at xs rest h.0 h.1 e;
     }

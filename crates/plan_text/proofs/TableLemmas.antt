@@ -1,5 +1,5 @@
 -- Tables by stage, and the rows of their stages.
-use Rattle.std.proofs.Common.{◌≡◌, ℕ, ℤ, ◌+◌, ◌-◌, ◌<◌, ◌≤◌, zero, suc, List, [], ◌∷◌, ◌++◌, map, length, drop, get_or, All, refl, sym, ap, subst, ◌∙◌, arith, add-one}
+use Rattle.std.proofs.Common.{◌≡◌, ℕ, ℤ, ◌+◌, ◌-◌, ◌≤◌, zero, suc, List, [], ◌∷◌, ◌++◌, map, length, drop, get_or, All, refl, sym, ap, subst, ◌∙◌, arith, add-one}
 use Rattle.std.specs.List.{flat_map}
 use Rattle.std.proofs.lemmas.List.{drop_more, drop_all, length-map}
 use Rattle.std.proofs.lemmas.List.Elements.{All-nil, All-cons, All-head, All-tail}
@@ -11,7 +11,7 @@ use Rattle.plan_rules.proofs.FitsLemmas.{table_moderate}
 use Rattle.plan_text.specs.declared.rows.Stage.{Stage}
 use Rattle.plan_text.specs.declared.rows.Tables.{Tables}
 use Rattle.plan_text.specs.PlanText.{stage_text, stages_text}
-use Rattle.text_parts.specs.Lines.{Reading, lines_of}
+use Rattle.text_parts.specs.Lines.{lines_of}
 use Rattle.plan_text.specs.Taken.{Took}
 use Rattle.plan_text.specs.Reading.{Read, repeat_due}
 use Rattle.plan_text.specs.Plans.{tables_by_stage, stage_due, tables_due}

@@ -1,5 +1,5 @@
 -- Keywords and spelled numbers are words: no byte of theirs parts words or ends a line.
-use Rattle.std.proofs.Common.{◌≡◌, ℕ, ℤ, pos, negsuc, suc, ◌+◌, ◌^◌, ◌<◌, ◌≤◌, Bool, true, false, not, List, [], ◌∷◌, ◌++◌, map, length, get_or, All, refl, sym, ap, ◌∙◌, ◌==◌, arith, append_assoc, eq-eqb}
+use Rattle.std.proofs.Common.{◌≡◌, ℕ, ℤ, pos, negsuc, suc, ◌^◌, ◌<◌, true, false, not, List, [], ◌∷◌, ◌++◌, map, get_or, All, refl, ap, ◌∙◌, ◌==◌, arith, eq-eqb}
 use Rattle.std.specs.List.{slice_split, join_with_byte, list_all}
 use Rattle.std.specs.Fmt.{decimal, signed_decimal}
 use Rattle.std.proofs.lemmas.Bool.{ne_eqb, and_parts, not-true}
@@ -8,7 +8,7 @@ use Rattle.std.proofs.lemmas.List.Elements.{All-nil, All-cons, All-head, All-tai
 use Rattle.std.proofs.lemmas.List.Splits.{slice_split_at, slice_split_none}
 use Rattle.std.proofs.lemmas.Str.Parse.{digit_at}
 use Rattle.std.proofs.lemmas.Fmt.{decimal_is_IsNumeral_wide}
-use Rattle.text_parts.specs.Words.{words_of, parts_between}
+use Rattle.text_parts.specs.Words.{words_of}
 use Rattle.text_parts.specs.Decimal.{IsShort}
 use Rattle.plan_text.specs.Forms.{spelled_row}
 

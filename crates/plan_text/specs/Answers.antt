@@ -1,5 +1,5 @@
 -- What is said of an answer by its cases.
-use Rattle.std.specs.Prelude.{ℕ, ◌≡◌, List, [], ◌++◌, Option, Some, Result, Ok, Err}
+use Rattle.std.specs.Prelude.{ℕ, ◌≡◌, List, [], ◌++◌, Result, Ok, Err}
 use Rattle.text_parts.specs.Lines.{Reading, text_of}
 use Rattle.road_types.specs.declared.road.Road.{Road}
 use Rattle.plan_rules.specs.declared.plan.Plan.{Plan}

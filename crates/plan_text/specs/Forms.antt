@@ -1,5 +1,5 @@
 -- Each line of a plan text has a form: a keyword, and so many numbers within a range, each behind one space.
-use Rattle.std.specs.Prelude.{ℕ, ◌≡◌, ◌+◌, ◌^◌, ◌-◌, List, [], ◌∷◌, ◌++◌, map, length, Bool, true, false, ◌&&◌, Option, Some, None, if◌then◌else◌, ◌==◌, ℤ, pos, negsuc, ◌≤ℤ◌, int_le, codes, All}
+use Rattle.std.specs.Prelude.{ℕ, ◌≡◌, ◌^◌, ◌-◌, List, [], ◌∷◌, ◌++◌, map, length, ◌&&◌, Option, Some, None, if◌then◌else◌, ◌==◌, ℤ, pos, negsuc, ◌≤ℤ◌, int_le, All}
 use Rattle.std.specs.Option.{option_map, option_and_then}
 use Rattle.std.specs.List.{join_with_byte}
 use Rattle.std.specs.Str.{bytes_eq}

@@ -1,5 +1,5 @@
 -- The text of a plan: its denominator, a line for each segment, five lines for each stage, the openings, and `end`.
-use Rattle.std.specs.Prelude.{ℕ, ◌≡◌, ◌+◌, ◌-◌, ◌^◌, ◌<◌, zero, suc, List, [], ◌∷◌, ◌++◌, map, length, ℤ, pos, codes, All}
+use Rattle.std.specs.Prelude.{ℕ, ◌^◌, ◌<◌, zero, suc, List, [], ◌∷◌, ◌++◌, map, pos, codes, All}
 use Rattle.std.specs.List.{flat_map}
 use Rattle.road_types.specs.Numbered.{numbered}
 use Rattle.road_types.specs.declared.road.Road.{Road}

@@ -1,12 +1,11 @@
 -- The plan that the lines at the front spell, form after form.
-use Rattle.std.specs.Prelude.{ℕ, ◌≡◌, ◌+◌, ◌-◌, ◌^◌, zero, suc, List, [], ◌∷◌, ◌++◌, map, length, ℤ, pos, codes, Result, Ok, Err, slice_index_or, unsigned_abs}
-use Rattle.text_parts.specs.Lines.{TextLine, Reading, lines_of}
+use Rattle.std.specs.Prelude.{ℕ, ◌-◌, ◌^◌, List, map, ℤ, pos, codes, slice_index_or, unsigned_abs}
 use Rattle.road_types.specs.declared.road.Road.{Road}
 use Rattle.road_types.specs.Road.{section_count, segment_count, access_count, block_count}
 use Rattle.plan_rules.specs.declared.plan.Piece.{Piece}
 use Rattle.plan_rules.specs.declared.plan.Plan.{Plan}
 use Rattle.plan_text.specs.Forms.{Form, short_numbers}
-use Rattle.plan_text.specs.Reading.{Read, ◌>>=◌, give, then_read, numbers_due, repeat_due}
+use Rattle.plan_text.specs.Reading.{Read, ◌>>=◌, give, numbers_due, repeat_due}
 use Rattle.plan_text.specs.declared.rows.Stage.{Stage}
 use Rattle.plan_text.specs.declared.rows.Tables.{Tables}
 

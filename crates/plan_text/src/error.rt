@@ -4,7 +4,8 @@ use std::fmt;
 /// Why no value was read from a text.
 #[derive(Clone, Copy, Debug, PartialEq, Eq)]
 pub enum TextErr {
-    /// The number, from 1, of the first line that isn't of the form due, or of the missing line where the text ends too early.
+    /// The number, from 1, of the first line that isn't of the form due,
+    /// or of the missing line where the text ends too early.
     Bad { line: usize },
     /// Memory ran out.
     NoMemory,

@@ -4,12 +4,11 @@ ghost use Rattle.plan_text.specs.Forms.{AreOfForm, line_numbers, number_of, shor
 ghost use Rattle.plan_text.specs.Reading.{Gives, numbers_due};
 ghost use Rattle.plan_text.specs.Plans.{den_form, piece_form, opens_form, end_form};
 
+use crate::error::TextErr;
 use road_types::Listed;
 use std::alloc::{AllocError, Global};
 use std::marker::Model;
 use text_parts::{Line, Lines, whole};
-
-use crate::error::TextErr;
 
 /// The greatest plan denominator.
 const DENOMINATOR_MOST: i128 = 1 << 40;
@@ -86,7 +85,11 @@ impl<'a> Form<'a> {
 
     /// The numbers of a line, if it ends and is of this form.
     #[tactic(auto, unfolding(crate::specs::Forms::line_numbers))]
-    pub(crate) fn numbers(&self, alloc: Global, line: &Line) -> Result<Option<Listed<i128>>, AllocError>
+    pub(crate) fn numbers(
+        &self,
+        alloc: Global,
+        line: &Line,
+    ) -> Result<Option<Listed<i128>>, AllocError>
         ensures { IfOk result (λ numbers. numbers ≡ line_numbers self.now line.now) }
     {
         if !line.ended() {
@@ -101,6 +104,9 @@ impl<'a> Form<'a> {
         }
         let mut numbers = Vec::new(alloc);
         for word in words {
+            if numbers.len() == self.count {
+                return Ok(None);
+            }
             let Some(number) = self.number(word) else {
                 return Ok(None);
             };

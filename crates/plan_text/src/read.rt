@@ -4,14 +4,13 @@ ghost use Rattle.plan_text.specs.Reading.{Gives, repeat_due};
 ghost use Rattle.plan_text.specs.WholeText.{plan_of_text, GivesPlan};
 ghost use Rattle.plan_text.specs.Plans.{den_due, piece_due, stage_due, tables_due, opens_due, plan_due};
 
+use crate::error::TextErr;
+use crate::form::Form;
+use crate::rows::{Stage, Tables};
 use plan_rules::{Piece, Plan};
 use road_types::{Listed, Road};
 use std::alloc::Global;
 use text_parts::Lines;
-
-use crate::error::TextErr;
-use crate::form::Form;
-use crate::rows::{Stage, Tables};
 
 /// Reads one plan text of the road from the front of the lines and leaves the rest.
 #[tactic(auto, unfolding(crate::specs::Plans::plan_due))]

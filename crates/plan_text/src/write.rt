@@ -38,7 +38,12 @@ fn text_of(alloc: Global, road: &Road, plan: &Plan) -> Result<Vec<u8>, AllocErro
 }
 
 /// A keyword and its numbers, each behind one space, on a line.
-fn push_line(alloc: Global, keyword: &[u8], numbers: &[i128], text: &mut Vec<u8>) -> Result<(), AllocError>
+fn push_line(
+    alloc: Global,
+    keyword: &[u8],
+    numbers: &[i128],
+    text: &mut Vec<u8>,
+) -> Result<(), AllocError>
     ensures { OnOk result (text.new.items ≡ text.old.items ++ spelled_line keyword.now numbers.now) }
 {
     text.extend_from_slice(keyword)?;
@@ -68,7 +73,12 @@ fn push_piece(alloc: Global, piece: &Piece, text: &mut Vec<u8>) -> Result<(), Al
 }
 
 /// Five lines for each stage.
-fn push_stages(alloc: Global, road: &Road, plan: &Plan, text: &mut Vec<u8>) -> Result<(), AllocError>
+fn push_stages(
+    alloc: Global,
+    road: &Road,
+    plan: &Plan,
+    text: &mut Vec<u8>,
+) -> Result<(), AllocError>
     requires { Fits road.now plan.now }
     ensures { OnOk result (text.new.items ≡ text.old.items ++ stages_text (tables_of plan.now) 1 road.now.stages) }
 {
@@ -83,7 +93,13 @@ fn push_stages(alloc: Global, road: &Road, plan: &Plan, text: &mut Vec<u8>) -> R
 }
 
 /// The row of a table that stands at this place, counted from 0, on a line.
-fn push_row(alloc: Global, keyword: &[u8], table: &Listed<Listed<i128>>, t: usize, text: &mut Vec<u8>) -> Result<(), AllocError>
+fn push_row(
+    alloc: Global,
+    keyword: &[u8],
+    table: &Listed<Listed<i128>>,
+    t: usize,
+    text: &mut Vec<u8>,
+) -> Result<(), AllocError>
     requires { t < length table.now }
     ensures { OnOk result (text.new.items ≡ text.old.items ++ spelled_line keyword.now (numbered [] table.now (suc t))) }
 {

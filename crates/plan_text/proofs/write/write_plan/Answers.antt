@@ -1,4 +1,3 @@
-use Rattle.plan_text.specs.PlanText.{HasText}
 use Rattle.plan_text.proofs.AnswerLaws.{apart_on_ok}
 use Rattle.plan_text.proofs.write.write_plan.Goals as goal
 
