@@ -1,5 +1,5 @@
 -- What each table of a road file says by its keys, each value of its kind.
-use Rattle.std.specs.Prelude.{codes, pos, Result, Ok}
+use Rattle.std.specs.Prelude.{codes, pos, Result, Ok, ℤ}
 use Rattle.toml.specs.Data.{Data, Members}
 use Rattle.road_types.specs.declared.fault.Fault.{Fault}
 use Rattle.road_types.specs.declared.road.Slab.{Slab}
@@ -12,6 +12,10 @@ use Rattle.road_file.specs.declared.file.FileBlock.{FileBlock}
 use Rattle.road_file.specs.declared.file.RoadFile.{RoadFile}
 use Rattle.road_file.specs.Step.{◌>>=◌}
 use Rattle.road_file.specs.Kinds.{table_of, pair_of, whole_of, whole_at, text_at, pair_at, list_at, whole_or, text_or_none, list_or_empty}
+
+-- the height of the ground at a section, in mm
+abbrev ground : Section → ℤ
+ground s = s.ground
 
 -- thickness and area
 unfoldable pub slab_of : Data → Result Slab Fault

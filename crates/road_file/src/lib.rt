@@ -12,3 +12,6 @@ mod reader;
 
 pub use error::RoadErr;
 pub use reader::read_road;
+
+#[cfg(test)]
+mod tests;

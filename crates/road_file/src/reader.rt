@@ -233,16 +233,15 @@ fn accepted(road: Road) -> Result<Road, RoadErr>
     }
 }
 
-/// Reads a road file of at most 4 MiB; `csv` is what stands in the section table that it names, if any.
+/// Reads a road file of at most 4 MiB. `_csv` is what its section table holds, which isn't looked at yet.
 ///
 /// Refused by the first fault of the file, in the order F1 to F6, F0 where a section table is named, F7 to F15;
 /// a road that is answered has none of them. `NoMemory` where memory is wanting.
 #[tactic(auto, unfolding(crate::specs::RoadOf::road_of))]
-pub fn read_road(alloc: Global, bytes: &[u8], csv: Option<&[u8]>) -> Result<Road, RoadErr>
+pub fn read_road(alloc: Global, bytes: &[u8], _csv: Option<&[u8]>) -> Result<Road, RoadErr>
     ensures answers { Answers result (road_of bytes.now) }
     ensures accepted { IfOk result (λ road. road_fault road ≡ None) }
 {
-    let _ = csv;
     let file = contents(alloc, bytes)?;
     keep(file.table.is_none(), Fault::F0)?;
     accepted(road(alloc, file)?)
