@@ -9,7 +9,7 @@ use Rattle.plan_rules.specs.declared.plan.Piece.{Piece}
 use Rattle.plan_rules.specs.declared.plan.Plan.{Plan}
 use Rattle.plan_rules.specs.Plans.{no_piece}
 use Rattle.plan_rules.specs.Fits.{Fits, IsModerate, IsModeratePiece}
-use Rattle.plan_rules.specs.FitsByParts.{IsModerateRow, IsModerateTable, HasModerateTables, HasModeratePieces}
+use Rattle.plan_rules.specs.FitsByParts.{IsModerateRow, IsModerateTable, HasModerateTables, HasModeratePieces, HasModerateAmounts}
 use Rattle.plan_rules.proofs.NumberedLemmas.{numbered_all, all_numbered}
 
 moderate_zero : IsModerate (pos 0)
@@ -93,3 +93,6 @@ tables_of_fits road plan f =
       left = record { is_table = f.is_plan.left; moderate = f.left };
       roads = record { is_table = f.is_plan.roads; moderate = f.roads };
     }
+
+pub amounts_of_fits : (road : Road) (plan : Plan) → Fits road plan → HasModerateAmounts plan
+amounts_of_fits road plan f = record { cut = f.cut; fill = f.fill; right = f.right; left = f.left; roads = f.roads }

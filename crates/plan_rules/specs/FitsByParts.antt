@@ -30,3 +30,11 @@ pub record HasModerateTables (road : Road) (plan : Plan) : Type 0 where
   pub right : IsModerateTable road.stages (section_count road - 1) plan.right
   pub left : IsModerateTable road.stages (section_count road - 1) plan.left
   pub roads : IsModerateTable road.stages (access_count road) plan.roads
+
+-- every amount is moderate
+pub record HasModerateAmounts (plan : Plan) : Type 0 where
+  pub cut : (t i : ℕ) → IsModerate (amount plan.cut t i)
+  pub fill : (t i : ℕ) → IsModerate (amount plan.fill t i)
+  pub right : (t h : ℕ) → IsModerate (amount plan.right t h)
+  pub left : (t h : ℕ) → IsModerate (amount plan.left t h)
+  pub roads : (t q : ℕ) → IsModerate (amount plan.roads t q)

@@ -3,3 +3,5 @@ pub mod Fits
 pub mod FitsByParts
 pub mod Rules
 pub mod Costs
+pub mod Widths
+pub mod Verdicts

@@ -40,6 +40,10 @@ pub record IsInLimits (road : Road) (plan : Plan) (g : ℕ) : Type 0 where
   pub grade : IsWithin road.grade.0 road.grade.1 plan.den (piece_of plan g).b
   pub curve : IsWithin (neg_ℤ road.curve) road.curve plan.den (piece_of plan g).c
 
+-- every segment's numbers are within the road's limits
+pub record IsLimited (road : Road) (plan : Plan) : Type 0 where
+  pub each : (g : ℕ) → IsNumber g (segment_count road) → IsInLimits road plan g
+
 -- the height at the end of segment g, and the grade there
 abbrev pub end_height : Road → Plan → ℕ → ℤ
 end_height road plan g = let p = piece_of plan g in height_along p.a p.b p.c (segment_length road.knots g)

@@ -1,11 +1,21 @@
 // The rules of a plan and its cost: what a plan is, whether it is admissible, the first rule that it breaks, its price.
-// The definitions stand in specs/: Plans, Fits, Rules, Costs.
+// The definitions stand in specs/: Plans, Fits, Rules, Costs, Verdicts.
 #![tactic(auto)]
 
+mod costs;
+mod entries;
 mod fits;
+mod heights;
+mod judging;
 mod logic;
+mod numbers;
 mod plan;
+mod rules;
 mod verdict;
+mod volumes;
 
+pub use heights::{height_at, offset_of};
+pub use judging::judge;
 pub use plan::{Piece, Plan};
 pub use verdict::{Rule, Verdict};
+pub use volumes::table_volume;

@@ -1,0 +1,34 @@
+use Rattle.std.proofs.Common.{◌*◌, ◌^◌, ◌<◌, ◌≤◌, ◌∙◌, to_z, rules, FitsSigned, arith}
+use Rattle.std.specs.Prelude.{unsigned_abs}
+use Rattle.std.specs.Int.{w128}
+use Rattle.std.proofs.lemmas.Int.{to_z-of_z}
+use Rattle.plan_rules.specs.Costs.{access_cost}
+use Rattle.road_types.specs.Road.{access_count}
+use Rattle.plan_rules.proofs.CostWidths.{access_cost_width}
+use Rattle.plan_rules.proofs.SumWidths.{sum_step_fits, sum_more, sum_width}
+use Rattle.plan_rules.proofs.costs.accesses_cost.Goals as goal
+
+pub plus-total-requires : goal.plus-total-requires
+plus-total-requires c =
+    let road = c.args.road.now in
+    let plan = c.args.plan.now in
+    let few : access_count road * (2 ^ 108) < 2 ^ 127 = omega (arith, c.requires.accepted.roads_to) in
+    let fits = sum_step_fits (access_cost c.args.road.now c.args.plan.now c.args.stage) (2 ^ 108) (access_count road) c.loop-before.before (λ i low high. access_cost_width road plan c.requires.accepted c.requires.payable c.args.stage i c.requires.stage (record { from_one = low; at_most = high })) (omega arith) few in
+    let part : FitsSigned w128 c.access_cost.result = search rules in
+    simp to_z-of_z (rw (c.loop-before.invariant, c.access_cost.ensures) fits)
+
+pub loop-before-preserved : goal.loop-before-preserved
+loop-before-preserved c =
+    let part : FitsSigned w128 c.access_cost.result = search rules in
+    let total : FitsSigned w128 c.plus-total.result = search rules in
+    to_z-of_z w128 _ total
+    ∙ sum_more (access_cost c.args.road.now c.args.plan.now c.args.stage) c.loop-before.before (to_z w128 c.loop-before.total-bits) c.access_cost.result c.plus-total.result
+    c.loop-before.invariant c.access_cost.ensures (simp to_z-of_z at c.plus-total.ensures)
+
+pub returns-clause-width : goal.returns-clause-width
+returns-clause-width c =
+    let road = c.args.road.now in
+    let plan = c.args.plan.now in
+    let width = sum_width (access_cost c.args.road.now c.args.plan.now c.args.stage) (2 ^ 108) (access_count road) c.loop-before.before (λ i low high. access_cost_width road plan c.requires.accepted c.requires.payable c.args.stage i c.requires.stage (record { from_one = low; at_most = high })) (omega arith) in
+    let total : unsigned_abs (to_z w128 c.loop-before.total-bits) ≤ access_count road * (2 ^ 108) = rw c.loop-before.invariant width in
+    omega (arith, c.requires.accepted.roads_to)
