@@ -1,0 +1,2 @@
+mod FormsLemmas
+pub mod CostLemmas

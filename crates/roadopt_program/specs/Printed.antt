@@ -1,0 +1,62 @@
+-- The lines that the program prints, each with its last byte 10.
+use Rattle.std.specs.Prelude.{ℕ, List, ◌++◌, codes}
+use Rattle.std.specs.Fmt.{decimal}
+use Rattle.road_types.specs.declared.fault.Fault.{Fault}
+use Rattle.road_types.specs.declared.fault.Fault.TheVariants.{F0, F1, F2, F3, F4, F5, F6, F7, F8, F9, F10, F11, F12, F13, F14, F15, F16, F17, F18}
+use Rattle.plan_rules.specs.declared.verdict.Rule.{Rule}
+use Rattle.plan_rules.specs.declared.verdict.Rule.TheVariants.{P1, P2, P3, P4, P5, P6, P7, P8, P9}
+use Rattle.numbers.specs.Fractions.{Fraction, fraction_text}
+
+-- the name of a fault
+abbrev pub fault_name : Fault → List ℕ
+fault_name F0 = codes "F0"
+fault_name F1 = codes "F1"
+fault_name F2 = codes "F2"
+fault_name F3 = codes "F3"
+fault_name F4 = codes "F4"
+fault_name F5 = codes "F5"
+fault_name F6 = codes "F6"
+fault_name F7 = codes "F7"
+fault_name F8 = codes "F8"
+fault_name F9 = codes "F9"
+fault_name F10 = codes "F10"
+fault_name F11 = codes "F11"
+fault_name F12 = codes "F12"
+fault_name F13 = codes "F13"
+fault_name F14 = codes "F14"
+fault_name F15 = codes "F15"
+fault_name F16 = codes "F16"
+fault_name F17 = codes "F17"
+fault_name F18 = codes "F18"
+
+-- the name of a rule
+abbrev pub rule_name : Rule → List ℕ
+rule_name P1 = codes "P1"
+rule_name P2 = codes "P2"
+rule_name P3 = codes "P3"
+rule_name P4 = codes "P4"
+rule_name P5 = codes "P5"
+rule_name P6 = codes "P6"
+rule_name P7 = codes "P7"
+rule_name P8 = codes "P8"
+rule_name P9 = codes "P9"
+
+abbrev pub usage_line : List ℕ
+usage_line = codes "usage: judge ROAD PLAN, check ROAD CERT, replay ROAD CERT, solve ROAD CERT, trial NUMBER\n"
+
+-- `road refused: Fk`
+unfoldable pub road_refused_line : Fault → List ℕ
+road_refused_line fault = codes "road refused: " ++ (fault_name fault ++ codes "\n")
+
+-- `plan refused: line n`
+unfoldable pub plan_refused_line : ℕ → List ℕ
+plan_refused_line n = codes "plan refused: line " ++ (decimal n ++ codes "\n")
+
+-- `broken Pk stage s place p`
+unfoldable pub broken_line : Rule → ℕ → ℕ → List ℕ
+broken_line rule stage place =
+    codes "broken " ++ (rule_name rule ++ (codes " stage " ++ (decimal stage ++ (codes " place " ++ (decimal place ++ codes "\n")))))
+
+-- `admissible n/d`
+unfoldable pub admissible_line : Fraction → List ℕ
+admissible_line cost = codes "admissible " ++ (fraction_text cost ++ codes "\n")

@@ -1,0 +1,105 @@
+// The lines that are printed.
+ghost use Rattle.std.specs.Prelude.{◌≡◌, IfOk};
+ghost use Rattle.std.specs.String.{string_bytes};
+ghost use Rattle.numbers.specs.Fractions.{HasFraction};
+ghost use Rattle.roadopt_program.specs.Judging.{PrintsFraction};
+ghost use Rattle.roadopt_program.specs.Printed.{fault_name, rule_name, road_refused_line, plan_refused_line, broken_line, admissible_line};
+
+use numbers::Frac;
+use plan_rules::Rule;
+use road_types::Fault;
+use std::alloc::{AllocError, Global};
+
+fn fault_name(fault: Fault) -> &'static str
+    ensures { result.now ≡ fault_name fault }
+{
+    match fault {
+        Fault::F0 => "F0",
+        Fault::F1 => "F1",
+        Fault::F2 => "F2",
+        Fault::F3 => "F3",
+        Fault::F4 => "F4",
+        Fault::F5 => "F5",
+        Fault::F6 => "F6",
+        Fault::F7 => "F7",
+        Fault::F8 => "F8",
+        Fault::F9 => "F9",
+        Fault::F10 => "F10",
+        Fault::F11 => "F11",
+        Fault::F12 => "F12",
+        Fault::F13 => "F13",
+        Fault::F14 => "F14",
+        Fault::F15 => "F15",
+        Fault::F16 => "F16",
+        Fault::F17 => "F17",
+        Fault::F18 => "F18",
+    }
+}
+
+fn rule_name(rule: Rule) -> &'static str
+    ensures { result.now ≡ rule_name rule }
+{
+    match rule {
+        Rule::P1 => "P1",
+        Rule::P2 => "P2",
+        Rule::P3 => "P3",
+        Rule::P4 => "P4",
+        Rule::P5 => "P5",
+        Rule::P6 => "P6",
+        Rule::P7 => "P7",
+        Rule::P8 => "P8",
+        Rule::P9 => "P9",
+    }
+}
+
+/// The line for a road with a fault.
+#[tactic(auto, unfolding(crate::specs::Printed::road_refused_line))]
+pub(crate) fn road_refused_line(alloc: Global, fault: Fault) -> Result<String, AllocError>
+    ensures { IfOk result (λ line. string_bytes line ≡ road_refused_line fault) }
+{
+    let name = fault_name(fault);
+    format!(in alloc; "road refused: {name}\n")
+}
+
+/// The line for bytes that aren't a plan of the road, with the number of the refused line.
+#[tactic(auto, unfolding(crate::specs::Printed::plan_refused_line))]
+pub(crate) fn plan_refused_line(alloc: Global, line: usize) -> Result<String, AllocError>
+    ensures { IfOk result (λ text. string_bytes text ≡ plan_refused_line line) }
+{
+    format!(in alloc; "plan refused: line {line}\n")
+}
+
+/// The line for the first broken rule.
+#[tactic(auto, unfolding(crate::specs::Printed::broken_line))]
+pub(crate) fn broken_line(
+    alloc: Global,
+    rule: Rule,
+    stage: usize,
+    place: usize,
+) -> Result<String, AllocError>
+    ensures { IfOk result (λ line. string_bytes line ≡ broken_line rule stage place) }
+{
+    let name = rule_name(rule);
+    format!(in alloc; "broken {name} stage {stage} place {place}\n")
+}
+
+/// The line for an admissible plan of this cost.
+#[tactic(auto, unfolding(crate::specs::Printed::admissible_line))]
+pub(crate) fn admissible_line(alloc: Global, cost: &Frac) -> Result<String, AllocError>
+    ensures { IfOk result (λ line. string_bytes line ≡ admissible_line cost.now) }
+{
+    let text = cost.text(alloc)?;
+    let text = text.as_str();
+    format!(in alloc; "admissible {text}\n")
+}
+
+/// The line for an admissible plan of this cost over its denominator.
+pub(crate) fn cost_line(alloc: Global, cost: i128, den: i128) -> Result<String, AllocError>
+    requires { HasFraction cost den }
+    ensures { IfOk result (λ line. PrintsFraction cost den (string_bytes line)) }
+{
+    let Some(cost) = Frac::new(cost, den) else {
+        unreachable!()
+    };
+    admissible_line(alloc, &cost)
+}
