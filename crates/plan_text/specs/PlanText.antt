@@ -13,6 +13,7 @@ use Rattle.plan_text.specs.Forms.{spelled_line}
 abbrev pub tables_of : Plan → Tables
 tables_of plan = record { cut = plan.cut; fill = plan.fill; right = plan.right; left = plan.left; roads = plan.roads }
 
+-- the line of a segment
 abbrev pub piece_text : Piece → List ℕ
 piece_text piece = spelled_line (codes "piece") (piece.a ∷ piece.b ∷ piece.c ∷ [])
 

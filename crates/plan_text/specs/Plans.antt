@@ -13,6 +13,7 @@ use Rattle.plan_text.specs.declared.rows.Tables.{Tables}
 abbrev pub den_form : Form
 den_form = record { keyword = codes "plan"; count = 1; low = pos 1; high = pos (2 ^ 40) }
 
+-- the height, the grade and the curve of a segment
 abbrev pub piece_form : Form
 piece_form = short_numbers (codes "piece") 3
 
@@ -20,6 +21,7 @@ piece_form = short_numbers (codes "piece") 3
 abbrev pub opens_form : ℕ → Form
 opens_form blocks = record { keyword = codes "open"; count = blocks; low = pos 0; high = pos 255 }
 
+-- the last line has its keyword alone
 abbrev pub end_form : Form
 end_form = short_numbers (codes "end") 0
 
@@ -27,16 +29,19 @@ end_form = short_numbers (codes "end") 0
 abbrev pub nth : List ℤ → ℕ → ℤ
 nth numbers i = slice_index_or numbers i (pos 0)
 
+-- the denominator, on the first line
 unfoldable pub den_due : Read ℤ
 den_due = do
   numbers ← numbers_due den_form
   give (nth numbers 0)
 
+-- the height of a segment, on a line
 unfoldable pub piece_due : Read Piece
 piece_due = do
   numbers ← numbers_due piece_form
   give (record { a = nth numbers 0; b = nth numbers 1; c = nth numbers 2 })
 
+-- the openings of so many blocks, on a line
 unfoldable pub opens_due : ℕ → Read (List ℕ)
 opens_due blocks = do
   numbers ← numbers_due (opens_form blocks)
@@ -57,11 +62,13 @@ abbrev pub tables_by_stage : List Stage → Tables
 tables_by_stage stages =
     record { cut = map (λ s. s.cut) stages; fill = map (λ s. s.fill) stages; right = map (λ s. s.right) stages; left = map (λ s. s.left) stages; roads = map (λ s. s.roads) stages }
 
+-- the tables, stage by stage
 unfoldable pub tables_due : Road → Read Tables
 tables_due road = do
   stages ← repeat_due road.stages (stage_due road)
   give (tables_by_stage stages)
 
+-- a plan of the road, of which each line has the form due at its place
 unfoldable pub plan_due : Road → Read Plan
 plan_due road = do
   den ← den_due

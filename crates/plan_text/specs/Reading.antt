@@ -9,10 +9,12 @@ use Rattle.plan_text.specs.Forms.{Form, line_numbers}
 abbrev pub Read : Type 0 → Type 0
 Read A = Reading → Result (A × Reading) ℕ
 
+-- what follows a value that was read; a line that was refused ends the reading
 abbrev pub then_read : {A B : Type 0} → Result (A × Reading) ℕ → (A → Read B) → Result (B × Reading) ℕ
 then_read (Err line) next = Err line
 then_read (Ok read) next = next read.0 read.1
 
+-- one reader after another, the second by what the first read
 infixl 10 ◌>>=◌
 abbrev pub ◌>>=◌ : {A B : Type 0} → Read A → (A → Read B) → Read B
 (read >>= next) lines = then_read (read lines) next
@@ -35,6 +37,7 @@ abbrev pub next_numbers : Form → List TextLine → Read (List ℤ)
 next_numbers form [] lines = Err (lines.number + 1)
 next_numbers form (line ∷ others) lines = taken (line_numbers form line) (behind lines others)
 
+-- the numbers of the next line, where it is of this form
 unfoldable pub numbers_due : Form → Read (List ℤ)
 numbers_due form lines = next_numbers form lines.left lines
 

@@ -6,9 +6,11 @@ use Rattle.std.specs.Char.{is_ascii_digit}
 use Rattle.std.specs.Str.Parse.{digits_value}
 use Rattle.std.specs.Fmt.{signed_decimal}
 
+-- the byte before a number below 0
 abbrev pub minus_sign : ℕ
 minus_sign = 45
 
+-- the byte of the digit 0
 abbrev pub digit_zero : ℕ
 digit_zero = 48
 
