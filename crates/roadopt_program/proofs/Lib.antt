@@ -1,2 +1,3 @@
-mod FormsLemmas
 pub mod CostLemmas
+mod FormsLemmas
+pub mod JudgingLaws
