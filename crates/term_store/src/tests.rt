@@ -1,5 +1,5 @@
 // Each public call once, and two rows merged by rising column into a third.
-ghost use Rattle.std.specs.Prelude.{◌≡◌, ◌+◌, ◌≤◌, ◌++◌, length, IfOk};
+ghost use Rattle.std.specs.Prelude.{◌≡◌, ◌≢◌, ◌+◌, ◌<◌, ◌≤◌, [], ◌++◌, length, slice_set, IfOk};
 
 use crate::{RowMut, Rows, Side, Term};
 use std::alloc::{AllocError, Global};
@@ -60,6 +60,18 @@ fn a_view_reads_sets_and_pushes(rt: HostRuntime) -> Result<(), Fail> {
     Ok(())
 }
 
+/// Empties row `k`: what a caller knows of the whole store after a loan.
+fn clear_third(rows: &mut Rows<i64>, i: usize, j: usize, k: usize)
+    requires rows { (i < length rows.old.rows) × ((j < length rows.old.rows) × (k < length rows.old.rows)) }
+    requires differ { ((k ≢ i) × (k ≢ j)) × (i ≢ j) }
+    ensures rows { rows.new.rows ≡ slice_set rows.old.rows k [] }
+    ensures room { rows.new.room ≡ rows.old.room }
+    ensures width { rows.new.width ≡ rows.old.width }
+{
+    let (_, _, view) = rows.merge_mut(i, j, k);
+    view.clear();
+}
+
 /// Puts the sum of two rows, by rising column, behind what the view shows.
 fn add_into(left: &[Term<i64>], right: &[Term<i64>], view: RowMut<'_, i64>)
     requires { length view.old.terms + (length left.now + length right.now) ≤ view.old.room }
@@ -97,9 +109,9 @@ fn push_all(terms: &[Term<i64>], view: RowMut<'_, i64>)
 #[test]
 fn two_rows_are_merged_into_a_third(rt: HostRuntime) -> Result<(), Fail> {
     let mut rows = three_rows(rt.alloc())?;
+    clear_third(&mut rows, 0, 1, 2);
     let (left, right, view) = rows.merge_mut(0, 1, 2);
-    view.clear();
-    assert!(rt; left.len() + right.len() <= 3);
+    assert!(rt; view.len() == 0 && left.len() + right.len() <= 3);
     add_into(left, right, view);
     assert!(rt; holds(rows.row(2), &[term(1, 5), term(4, 5)]));
     Ok(())
