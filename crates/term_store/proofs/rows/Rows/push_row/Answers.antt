@@ -1,0 +1,15 @@
+use Rattle.std.proofs.Common.{ap, ◌∙◌, ◌++◌, ◌∷◌, [], min}
+use Rattle.term_store.proofs.RowsLemmas.{after_push, same_width, wide}
+use Rattle.term_store.proofs.rows.Rows.push_row.Goals as goal
+
+pub returns-clause-rows : goal.returns-clause-rows
+returns-clause-rows g c =
+    after_push _ _ _ _ _ _ c.self.view_is _ c.keep_apart.new.kept c.refill.new.self _ c.self.invariant.0 c.requires.free
+    c.keep_apart.ensures.in_order c.keep_apart.ensures.place
+    ∙ ap (λ terms. c.args.self.now.rows ++ terms ∷ []) c.refill.ensures.terms
+
+pub returns-clause-width : goal.returns-clause-width
+returns-clause-width g c =
+    same_width _ _ _ _ _ _ c.self.view_is _ _
+    (c.min-self-inside.ensures ∙ ap (min c.self.inside.width) c.room.ensures)
+    (rw c.refill.ensures.room (wide c.self.inside.width _ _ c.self.inside.kept c.keep_apart.new.kept c.self.invariant.1.1 c.keep_apart.ensures.rooms).0)
