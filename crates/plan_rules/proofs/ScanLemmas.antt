@@ -12,7 +12,7 @@ use Rattle.plan_rules.specs.declared.verdict.Rule.{Rule}
 use Rattle.plan_rules.specs.declared.verdict.Rule.TheVariants.{P1, P2, P3, P4, P5, P6, P7, P8, P9}
 use Rattle.plan_rules.specs.Plans.{amount}
 use Rattle.plan_rules.specs.Fits.{Fits}
-use Rattle.plan_rules.specs.Rules.{Keeps, IsPlace, place_count, number_of, at_no_stage, at_each_stage, amount_count, fill_before, right_before, left_before, roads_before, IsAmountCapped, IsCapped, IsLimited}
+use Rattle.plan_rules.specs.Rules.{Keeps, IsPlace, place_count, number_of, at_no_stage, at_each_stage, amount_count, fill_before, right_before, left_before, roads_before, IsAmountCapped, IsCapped, IsLimited, IsAdmissible, IsFirstBroken}
 use Rattle.plan_rules.specs.Widths.{KeepsLesser, IsDenominator, IsPayable}
 use Rattle.plan_rules.proofs.HeightWidths.{denominator_of_fits, within_width}
 
@@ -20,6 +20,15 @@ use Rattle.plan_rules.proofs.HeightWidths.{denominator_of_fits, within_width}
 pub limited_before : (road : Road) (plan : Plan) (rule : Rule) → 1 < number_of rule → KeepsLesser road plan rule → IsLimited road plan
 unfolding Keeps place_count
 limited_before road plan rule l h = record { each = λ g n. h.each P1 0 g l n }
+
+-- so are they in an admissible plan
+pub limited_of_admissible : (road : Road) (plan : Plan) → IsAdmissible road plan → IsLimited road plan
+unfolding Keeps place_count
+limited_of_admissible road plan h = record { each = λ g n. h.keeps P1 0 g n }
+
+-- and in a plan whose first broken rule is a later one
+pub limited_of_broken : (road : Road) (plan : Plan) (rule : Rule) (stage place : ℕ) → 1 < number_of rule → IsFirstBroken road plan rule stage place → IsLimited road plan
+limited_of_broken road plan rule stage place l h = limited_before road plan rule l (record { each = h.lesser_rules })
 
 no_stage : (stage count : ℕ) → 1 ≤ at_no_stage stage count → stage ≡ 0
 no_stage stage count h = grind (arith, nat_tests)
