@@ -1,9 +1,10 @@
 -- The columns of a road's program: their kinds in the order of their numbers, which begin at 1, the number of a kind, and
 -- the bounds and the cost of each. Amounts are in litres, offsets and heights in mm.
-use Rattle.std.specs.Prelude.{◌≡◌, ℕ, ◌+◌, ◌-◌, ◌*◌, ◌==◌, ◌&&◌, nat_le, nat_lt, Bool, if◌then◌else◌, Option, Some, None, List, [], ◌∷◌, ◌++◌, map, length, ℤ, pos, neg_ℤ, ◌+ℤ◌}
+use Rattle.std.specs.Prelude.{◌≡◌, ℕ, ◌+◌, ◌-◌, ◌*◌, ◌==◌, ◌&&◌, nat_le, nat_lt, Bool, if◌then◌else◌, Option, Some, None, List, [], ◌∷◌, ◌++◌, map, length, ℤ, pos, neg_ℤ}
 use Rattle.algebra.specs.Lists.{list_to, flat_to}
 use Rattle.road_types.specs.Numbered.{numbered, IsNumber}
-use Rattle.road_types.specs.Road.{section, hop, pit, access, block, section_count, segment_count, hop_count, access_count, block_count}
+use Rattle.road_types.specs.Road.{section, hop, access, block, section_count, segment_count, hop_count, access_count, block_count, access_unit_cost}
+use Rattle.road_types.specs.RecordFaults.{is_number}
 use Rattle.road_types.specs.declared.road.Road.{Road}
 use Rattle.road_types.specs.declared.column.Column.{Column}
 use Rattle.road_types.specs.declared.column.Column.TheVariants.{A, B, C, Offset, Cut, Fill, Right, Left, Access, Opened}
@@ -61,34 +62,30 @@ blocks_before road = stages_before road + road.stages * stage_width road
 abbrev pub column_count : Road → ℕ
 column_count road = blocks_before road + block_count road * (road.stages - 1)
 
--- a number of one of `count` entries
-abbrev pub is_one_of : ℕ → ℕ → Bool
-is_one_of count i = nat_le 1 i && nat_le i count
-
 -- the column that stands `place` behind `before` others, where there is one
 abbrev pub column_at : Bool → ℕ → ℕ → Option ℕ
 column_at is_there before place = if is_there then Some (before + place) else None
 
 -- column number `place` of the three of segment g
 abbrev pub segment_column : Road → ℕ → ℕ → Option ℕ
-segment_column road g place = column_at (is_one_of (segment_count road) g) (3 * (g - 1)) place
+segment_column road g place = column_at (is_number g (segment_count road)) (3 * (g - 1)) place
 
 -- column number `place` of `count`, behind `before` others of stage t
 abbrev pub stage_column : Road → ℕ → ℕ → ℕ → ℕ → Option ℕ
 stage_column road t before count place =
-    column_at (is_one_of road.stages t && is_one_of count place) (stages_before road + ((t - 1) * stage_width road + before)) place
+    column_at (is_number t road.stages && is_number place count) (stages_before road + ((t - 1) * stage_width road + before)) place
 
 -- the column for block k and stage t, of which there is none at stage 1
 abbrev pub block_column : Road → ℕ → ℕ → Option ℕ
 block_column road k t =
-    column_at (is_one_of (block_count road) k && (nat_le 2 t && nat_le t road.stages)) (blocks_before road + (k - 1) * (road.stages - 1)) (t - 1)
+    column_at (is_number k (block_count road) && (nat_le 2 t && nat_le t road.stages)) (blocks_before road + (k - 1) * (road.stages - 1)) (t - 1)
 
 -- the number of the column of a kind, where the road has one
 unfoldable pub column_number : Road → Column → Option ℕ
 column_number road (A g) = segment_column road g 1
 column_number road (B g) = segment_column road g 2
 column_number road (C g) = segment_column road g 3
-column_number road (Offset i) = column_at (is_one_of (section_count road) i) (offsets_before road) i
+column_number road (Offset i) = column_at (is_number i (section_count road)) (offsets_before road) i
 column_number road (Cut i t) = stage_column road t 0 (section_count road) i
 column_number road (Fill i t) = stage_column road t (section_count road) (section_count road) i
 column_number road (Right h t) = stage_column road t (2 * section_count road) (hop_count road) h
@@ -97,10 +94,6 @@ column_number road (Access q t) = stage_column road t (2 * section_count road + 
 column_number road (Opened k t) = block_column road k t
 
 -- ---- bounds and costs
-
--- a litre on access road q costs what the road and its pit cost
-abbrev pub access_unit_cost : Road → ℕ → ℤ
-access_unit_cost road q = (access road q).cost +ℤ (pit road (access road q).pit).cost
 
 -- whether a block is opened at stage t, where its opening lies in a range: surely not, surely, or either
 abbrev pub opened_bounds : ℕ × ℕ → ℕ → ℤ × ℤ

@@ -3,11 +3,13 @@
 #![tactic(auto)]
 
 mod check;
+mod column;
 mod fault;
 mod listed;
 mod road;
 mod text;
 
+pub use column::Column;
 pub use fault::Fault;
 pub use listed::Listed;
 pub use road::{Access, Block, Fixed, Hop, Pit, PitKind, Road, Section, Slab};
