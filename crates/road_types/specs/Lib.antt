@@ -3,6 +3,7 @@ pub mod Heights
 pub mod Volumes
 pub mod Breakpoints
 pub mod Road
+pub mod Ranges
 pub mod Limits
 pub mod RecordFaults
 pub mod WellFormed

@@ -1,19 +1,17 @@
 -- The program of a road over ranges of offsets and openings, how many rows it has, and the weight of a road. Rows and columns
 -- are numbered from 1.
-use Rattle.std.specs.Prelude.{ℕ, ◌+◌, ◌-◌, ◌*◌, ◌++◌, Option, Some, None, if◌then◌else◌, List, [], ◌∷◌, map, ℤ, pos, neg_ℤ}
+use Rattle.std.specs.Prelude.{ℕ, ◌+◌, ◌-◌, ◌*◌, ◌++◌, Option, Some, None, if◌then◌else◌, List, [], ◌∷◌, map, ℤ, pos}
 use Rattle.std.specs.Ordering.{int_eq}
 use Rattle.programs.specs.Programs.{Program, ProgramRow}
 use Rattle.programs.specs.Weights.{weight}
-use Rattle.road_types.specs.Numbered.{numbered}
-use Rattle.road_types.specs.Volumes.{thickness_of}
 use Rattle.road_types.specs.Road.{section, section_count, segment_count, fixed_count, pit_count, block_count}
+use Rattle.road_types.specs.Ranges.{height_range, whole_ranges, whole_openings}
 use Rattle.road_types.specs.Columns.{columns_of, column_number, bounds_of, unit_cost}
 use Rattle.road_types.specs.Forms.{Form}
 use Rattle.road_types.specs.Lines.{Lines, lines_over, heaviest_lines}
 use Rattle.road_types.specs.SectionForms.{section_forms}
 use Rattle.road_types.specs.HaulForms.{haul_forms}
 use Rattle.road_types.specs.declared.road.Road.{Road}
-use Rattle.road_types.specs.declared.road.Section.{Section}
 use Rattle.road_types.specs.declared.column.Column.{Column}
 use Rattle.term_store.specs.declared.term.Term.{Term}
 
@@ -35,17 +33,13 @@ row_of road form = record { terms = terms_of road form.entries; side = form.side
 
 -- ---- the program
 
--- the range of offsets of section i
-abbrev pub offset_range : List (ℤ × ℤ) → ℕ → ℤ × ℤ
-offset_range heights i = numbered (pos 0, pos 0) heights i
-
 -- the forms of all rows, where `lines` gives each section's lines
 abbrev pub forms_of : Road → (ℕ → Lines) → List Form
 forms_of road lines = section_forms road lines ++ haul_forms road
 
 -- the lines of each section over its range of offsets
 abbrev pub lines_in : Road → List (ℤ × ℤ) → ℕ → Lines
-lines_in road heights i = lines_over (section road i) (offset_range heights i)
+lines_in road heights i = lines_over (section road i) (height_range heights i)
 
 -- the program with these ranges of offsets and of openings for bounds, and these lines
 abbrev pub program_with : Road → List (ℤ × ℤ) → List (ℕ × ℕ) → (ℕ → Lines) → Program
@@ -67,18 +61,6 @@ row_count road =
     section_count road + 2 * (segment_count road - 1) + 2 * segment_count road + 2 * fixed_count road + 4 * section_count road
     + road.stages * section_count road + pit_count road + block_count road * road.stages
     + 2 * (block_count road * (road.stages - 1)) + block_count road * (road.stages - 2)
-
--- from the bottom of a section's cut to the top of its fill
-abbrev pub whole_range : Section → ℤ × ℤ
-whole_range s = (neg_ℤ (thickness_of s.cut), thickness_of s.fill)
-
--- all offsets of all sections, and all openings of all blocks
-
-abbrev pub whole_ranges : Road → List (ℤ × ℤ)
-whole_ranges road = map whole_range road.sections
-
-abbrev pub whole_openings : Road → List (ℕ × ℕ)
-whole_openings road = map (λ block. (2, road.stages + 1)) road.blocks
 
 -- the weight of a road: of its program over all offsets and openings, with its heaviest lines
 unfoldable pub road_weight : Road → ℕ
