@@ -26,16 +26,16 @@ impl Model for Milp {
     ghost Value = { Program };
 
     ghost view = { λ m. record {
-        bounds = m.bounds.items;
-        costs = m.costs.items;
-        rows = rows_of m.rows.rows m.sides.items m.rights.items;
+      bounds = m.bounds.items;
+      costs = m.costs.items;
+      rows = rows_of m.rows.rows m.sides.items m.rights.items;
     } };
 
     ghost invariant = { λ m. (length m.sides.items ≡ length m.rows.rows)
         × ((length m.rights.items ≡ length m.rows.rows) × IsWithinLimits (record {
-            bounds = m.bounds.items;
-            costs = m.costs.items;
-            rows = rows_of m.rows.rows m.sides.items m.rights.items;
+          bounds = m.bounds.items;
+          costs = m.costs.items;
+          rows = rows_of m.rows.rows m.sides.items m.rights.items;
         })) };
 }
 
@@ -53,9 +53,9 @@ impl<'a> Model for RowView<'a> {
     ghost Value = { ProgramRow };
 
     ghost view = { λ r. record {
-        terms = r.terms.now;
-        side = r.side;
-        right = r.right;
+      terms = r.terms.now;
+      side = r.side;
+      right = r.right;
     } };
 }
 
@@ -72,14 +72,14 @@ impl Milp {
         requires sides { length sides.items ≡ length rows.rows }
         requires rights { length rights.items ≡ length rows.rows }
         requires limits { IsWithinLimits (record {
-            bounds = bounds.items;
-            costs = costs.items;
-            rows = rows_of rows.rows sides.items rights.items;
+          bounds = bounds.items;
+          costs = costs.items;
+          rows = rows_of rows.rows sides.items rights.items;
         }) }
         ensures { result ≡ record {
-            bounds = bounds.items;
-            costs = costs.items;
-            rows = rows_of rows.rows sides.items rights.items;
+          bounds = bounds.items;
+          costs = costs.items;
+          rows = rows_of rows.rows sides.items rights.items;
         } }
     {
         Milp {
