@@ -1,10 +1,7 @@
 -- A row of a road's program before its columns are numbered: coefficients at kinds of column, in rising order of columns, and
--- what their sum is asked to be. In numbering, coefficients 0 and kinds that have no column drop out.
-use Rattle.std.specs.Prelude.{ℕ, Option, Some, None, if◌then◌else◌, List, [], ◌∷◌, ◌++◌, map, ℤ, pos, neg_ℤ}
-use Rattle.road_types.specs.Columns.{column_number}
-use Rattle.road_types.specs.declared.road.Road.{Road}
+-- what their sum is asked to be. Once the columns are numbered, coefficients 0 and kinds without a column drop out.
+use Rattle.std.specs.Prelude.{List, [], ◌∷◌, map, ℤ, pos, neg_ℤ}
 use Rattle.road_types.specs.declared.column.Column.{Column}
-use Rattle.term_store.specs.declared.term.Term.{Term}
 use Rattle.term_store.specs.declared.side.Side.{Side}
 use Rattle.term_store.specs.declared.side.Side.TheVariants.{Equal, AtLeast}
 
@@ -13,6 +10,10 @@ pub record Form : Type 0 where
   pub entries : List (Column × ℤ)
   pub side : Side
   pub right : ℤ
+
+-- a form that asks nothing
+abbrev pub no_form : Form
+no_form = record { entries = []; side = Equal; right = pos 0 }
 
 -- the same with the other sign
 abbrev pub negated : List (Column × ℤ) → List (Column × ℤ)

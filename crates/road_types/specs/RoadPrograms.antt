@@ -53,14 +53,22 @@ program_with road heights openings lines = record {
 abbrev pub road_program : Road → List (ℤ × ℤ) → List (ℕ × ℕ) → Program
 road_program road heights openings = program_with road heights openings (lines_in road heights)
 
--- ---- its size
+-- ---- its size and weight
+
+-- how many rows there are for heights and volumes
+abbrev pub section_row_count : Road → ℕ
+section_row_count road =
+    section_count road + 2 * (segment_count road - 1) + 2 * segment_count road + 2 * fixed_count road + 4 * section_count road
+
+-- how many there are for what is moved
+abbrev pub haul_row_count : Road → ℕ
+haul_row_count road =
+    road.stages * section_count road + pit_count road + block_count road * road.stages
+    + block_count road * (2 * (road.stages - 1)) + block_count road * (road.stages - 2)
 
 -- how many rows a road has
 abbrev pub row_count : Road → ℕ
-row_count road =
-    section_count road + 2 * (segment_count road - 1) + 2 * segment_count road + 2 * fixed_count road + 4 * section_count road
-    + road.stages * section_count road + pit_count road + block_count road * road.stages
-    + 2 * (block_count road * (road.stages - 1)) + block_count road * (road.stages - 2)
+row_count road = section_row_count road + haul_row_count road
 
 -- the weight of a road: of its program over all offsets and openings, with its heaviest lines
 unfoldable pub road_weight : Road → ℕ
