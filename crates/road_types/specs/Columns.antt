@@ -1,8 +1,8 @@
 -- The columns of a road's program: their kinds in the order of their numbers, which begin at 1, the number of a kind, and
 -- the bounds and the cost of each. Amounts are in litres, offsets and heights in mm.
 use Rattle.std.specs.Prelude.{◌≡◌, ℕ, ◌+◌, ◌-◌, ◌*◌, ◌==◌, ◌&&◌, nat_le, nat_lt, Bool, if◌then◌else◌, Option, Some, None, List, [], ◌∷◌, ◌++◌, map, length, ℤ, pos, neg_ℤ}
-use Rattle.algebra.specs.Lists.{list_to, flat_to}
-use Rattle.road_types.specs.Numbered.{numbered, IsNumber}
+use Rattle.algebra.specs.Lists.{list_to, flat_to, IsEntry}
+use Rattle.road_types.specs.Numbered.{numbered}
 use Rattle.road_types.specs.Road.{section, hop, access, block, section_count, segment_count, hop_count, access_count, block_count, access_unit_cost}
 use Rattle.road_types.specs.RecordFaults.{is_number}
 use Rattle.road_types.specs.declared.road.Road.{Road}
@@ -37,9 +37,8 @@ columns_of road =
     ++ flat_to (block_columns road) (block_count road)))
 
 -- the column with number j is of this kind
-pub record IsColumn (road : Road) (j : ℕ) (kind : Column) : Type 0 where
-  pub number : IsNumber j (length (columns_of road))
-  pub is_kind : numbered kind (columns_of road) j ≡ kind
+abbrev pub IsColumn : Road → ℕ → Column → Type 0
+IsColumn road j kind = IsEntry (columns_of road) j kind
 
 -- ---- how many there are, and their numbers
 

@@ -2,8 +2,8 @@ use Rattle.std.proofs.Common.{arith}
 use Rattle.std.specs.Prelude.{pos}
 use Rattle.std.proofs.lemmas.Int.{ints}
 use Rattle.road_types.specs.declared.road.Slab.{Slab}
-use Rattle.plan_rules.proofs.ListRests.{solid_at, thickness_more, thickness_none}
-use Rattle.plan_rules.proofs.volumes.thickness_of.Goals as goal
+use Rattle.road_types.proofs.ListRests.{solid_at, thickness_more, thickness_none}
+use Rattle.road_types.proofs.volumes.thickness_of.Goals as goal
 
 other : Slab
 other = record { thick = pos 0; area = pos 0 }

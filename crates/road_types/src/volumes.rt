@@ -1,18 +1,17 @@
-// Volumes by slab tables.
+// Volumes and thicknesses of slab tables.
 ghost use Rattle.std.specs.Prelude.{◌≡◌, ℤ, pos, neg_ℤ, ◌^◌, ◌+ℤ◌, ◌-ℤ◌, ◌*ℤ◌, ◌≤ℤ◌, ◌≤◌, unsigned_abs};
 ghost use Rattle.std.specs.Int.{int_min, int_max};
-ghost use Rattle.road_types.specs.Accepted.{IsSlabTable, IsSolidSlab};
+ghost use Rattle.road_types.specs.WellFormed.{IsSlabTable, IsSolidSlab};
 ghost use Rattle.road_types.specs.Volumes.{volume_to, thickness_of, net_volume};
-ghost use Rattle.plan_rules.specs.Widths.{IsDenominator};
+ghost use Rattle.algebra.specs.Scale.{IsScale};
 
-use crate::numbers::{minus, plus, scaled, times};
-use road_types::{Section, Slab};
+use crate::{Section, Slab};
+use algebra::{minus, plus, scaled, times};
 
-/// The volume of the slabs down to a depth, in litres; depth and volume are over `den`.
+/// The volume of the slabs down to a depth, in litres; depth and volume are over the denominator.
 pub fn table_volume(slabs: &[Slab], depth: i128, den: i128) -> i128
     requires slabs { IsSlabTable slabs.now }
-    requires den_from { pos 1 ≤ℤ den }
-    requires den_to { den ≤ℤ pos (2 ^ 40) }
+    requires den { IsScale den }
     requires depth_from { pos 0 ≤ℤ depth }
     requires depth_to { depth ≤ℤ pos (2 ^ 86) }
     ensures value { result ≡ volume_to slabs.now depth den }
@@ -31,7 +30,7 @@ pub fn table_volume(slabs: &[Slab], depth: i128, den: i128) -> i128
 /// The slab's area times how much of its thickness the depth takes.
 fn slab_volume(slab: Slab, depth: i128, den: i128) -> i128
     requires solid { IsSolidSlab slab }
-    requires den { IsDenominator den }
+    requires den { IsScale den }
     requires depth { pos 0 ≤ℤ depth }
     ensures value { result ≡ slab.area *ℤ int_min depth (slab.thick *ℤ den) }
     ensures from { pos 0 ≤ℤ result }
@@ -56,7 +55,7 @@ fn volume_of(area: i64, thickness: i128) -> i128
 /// How much of the slab's thickness the depth takes.
 fn thickness_within(slab: Slab, depth: i128, den: i128) -> i128
     requires solid { IsSolidSlab slab }
-    requires den { IsDenominator den }
+    requires den { IsScale den }
     requires depth { pos 0 ≤ℤ depth }
     ensures value { result ≡ int_min depth (slab.thick *ℤ den) }
     ensures from { pos 0 ≤ℤ result }
@@ -68,7 +67,7 @@ fn thickness_within(slab: Slab, depth: i128, den: i128) -> i128
 /// How much of the depth lies below the slab.
 fn left_below(slab: Slab, depth: i128, den: i128) -> i128
     requires solid { IsSolidSlab slab }
-    requires den { IsDenominator den }
+    requires den { IsScale den }
     requires depth { pos 0 ≤ℤ depth }
     ensures value { result ≡ int_max (depth -ℤ slab.thick *ℤ den) (pos 0) }
     ensures from { pos 0 ≤ℤ result }
@@ -90,11 +89,12 @@ pub fn thickness_of(slabs: &[Slab]) -> i64
     thickness
 }
 
-/// The volume that fills a section up to an offset over `den`, less what is cut where the offset is below the ground.
+/// The volume that fills a section up to an offset, less what is cut where the offset is below the ground; in litres, both over
+/// the denominator.
 pub fn net_volume(section: &Section, offset: i128, den: i128) -> i128
     requires cut { IsSlabTable section.now.cut }
     requires fill { IsSlabTable section.now.fill }
-    requires den { IsDenominator den }
+    requires den { IsScale den }
     requires offset { unsigned_abs offset ≤ 2 ^ 86 }
     ensures { result ≡ net_volume section.now.cut section.now.fill offset den }
 {

@@ -1,7 +1,7 @@
 use Rattle.std.proofs.Common.{◌∙◌, FitsSigned, rules}
 use Rattle.std.specs.Int.{w128}
 use Rattle.std.proofs.lemmas.Int.{to_z-of_z}
-use Rattle.plan_rules.proofs.volumes.net_volume.Goals as goal
+use Rattle.road_types.proofs.volumes.net_volume.Goals as goal
 
 pub returns : goal.returns
 returns c =

@@ -4,8 +4,8 @@ use Rattle.std.specs.Int.{w128}
 use Rattle.std.proofs.lemmas.Int.{ints, to_z-of_z}
 use Rattle.road_types.specs.declared.road.Slab.{Slab}
 use Rattle.road_types.specs.Volumes.{volume_to}
-use Rattle.plan_rules.proofs.ListRests.{solid_at, volume_more, volume_none}
-use Rattle.plan_rules.proofs.volumes.table_volume.Goals as goal
+use Rattle.road_types.proofs.ListRests.{solid_at, volume_more, volume_none}
+use Rattle.road_types.proofs.volumes.table_volume.Goals as goal
 
 other : Slab
 other = record { thick = pos 0; area = pos 0 }

@@ -1,7 +1,7 @@
 use Rattle.std.proofs.Common.{◌≡◌, ◌*◌, drop}
 use Rattle.std.specs.Prelude.{pos, ◌+ℤ◌, ◌≤ℤ◌}
 use Rattle.road_types.specs.Volumes.{thickness_of}
-use Rattle.plan_rules.proofs.volumes.thickness_of.Given as goal
+use Rattle.road_types.proofs.volumes.thickness_of.Given as goal
 
 abbrev pub invariant-loop-slab : goal.invariant-loop-slab
 invariant-loop-slab l = record {

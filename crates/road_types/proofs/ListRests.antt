@@ -7,7 +7,7 @@ use Rattle.std.proofs.lemmas.List.{at_drop_more, at_drop_all}
 use Rattle.road_types.specs.declared.road.Slab.{Slab}
 use Rattle.road_types.specs.Heights.{knots_before}
 use Rattle.road_types.specs.Volumes.{volume_to, thickness_of}
-use Rattle.road_types.specs.Accepted.{IsSlabTable, IsSolidSlab}
+use Rattle.road_types.specs.WellFormed.{IsSlabTable, IsSolidSlab}
 
 -- the slab at a position of a table is solid
 pub solid_at : (slabs : List Slab) → IsSlabTable slabs → (i : ℕ) (other : Slab) → i < length slabs → IsSolidSlab (get_or slabs i other)

@@ -3,8 +3,8 @@ use Rattle.std.specs.Prelude.{pos}
 use Rattle.std.specs.Int.{w64}
 use Rattle.std.proofs.lemmas.Int.{to_z-of_z}
 use Rattle.road_types.specs.Heights.{knots_before}
-use Rattle.plan_rules.proofs.ListRests.{knots_more, knots_none, knots_stop, knots_go}
-use Rattle.plan_rules.proofs.heights.knots_before.Goals as goal
+use Rattle.road_types.proofs.ListRests.{knots_more, knots_none, knots_stop, knots_go}
+use Rattle.road_types.proofs.segments.knots_before.Goals as goal
 
 pub returns-then-knot-station : goal.returns-then-knot-station
 returns-then-knot-station c =

@@ -3,12 +3,12 @@ use Rattle.std.specs.Prelude.{ℤ, pos, ◌≤ℤ◌, ◌*ℤ◌}
 use Rattle.std.specs.Int.{w64, w128}
 use Rattle.std.proofs.lemmas.Int.{ints, to_z-of_z}
 use Rattle.algebra.proofs.Order.{int_mul_le_mul}
-use Rattle.road_types.specs.Accepted.{IsSolidSlab}
+use Rattle.road_types.specs.WellFormed.{IsSolidSlab}
 use Rattle.road_types.specs.declared.road.Slab.{Slab}
-use Rattle.plan_rules.specs.Widths.{IsDenominator}
-use Rattle.plan_rules.proofs.volumes.thickness_within.Goals as goal
+use Rattle.algebra.specs.Scale.{IsScale}
+use Rattle.road_types.proofs.volumes.thickness_within.Goals as goal
 
-thickness_width : (slab : Slab) (den : ℤ) → IsSolidSlab slab → IsDenominator den → (slab.thick *ℤ den) ≤ℤ pos (2 ^ 64)
+thickness_width : (slab : Slab) (den : ℤ) → IsSolidSlab slab → IsScale den → (slab.thick *ℤ den) ≤ℤ pos (2 ^ 64)
 thickness_width slab den s d =
     int_mul_le_mul slab.thick (pos (2 ^ 24)) den (pos (2 ^ 40)) (omega (arith, ints, s.thick.at_least)) (omega (arith, ints, s.thick.at_most)) (omega (arith, ints, d.from_one)) d.at_most
 
