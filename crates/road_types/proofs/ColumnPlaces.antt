@@ -1,6 +1,6 @@
 -- The two views of a road's columns are one: the arithmetic of `column_number` gives the place in the list of kinds, and no other.
 use Rattle.std.proofs.Common.{◌≡◌, ℕ, zero, suc, ◌+◌, ◌-◌, ◌*◌, ◌<◌, ◌≤◌, Bool, true, false, ◌&&◌, List, [], ◌∷◌, ◌++◌, length, arith, ap, sym, ◌∙◌, refl, subst, ◌⊎◌, inl, inr, ⊎_elim, Option, Some, None}
-use Rattle.std.specs.Prelude.{nat_le}
+use Rattle.std.specs.Prelude.{nat_le, MatchOption, ◌↔◌}
 use Rattle.std.proofs.lemmas.List.{length-append}
 use Rattle.algebra.specs.Lists.{list_to, flat_to, IsEntry}
 use Rattle.algebra.proofs.ListsLemmas.{length-list_to, length-flat_to, entry_left, entry_right, entry_here, entry_behind, entry_at, list_to_entry, flat_to_entry, entry_cases, entry_of_none, entry_of_one, entry_of_list_to, IsEntryOf, entry_of_flat_to}
@@ -364,3 +364,12 @@ module _ (road : Road) where
       (entry_cases stages blocks r2.0 kind r2.1.1))
       (entry_cases offsets (stages ++ blocks) r.0 kind r.1.1))
       (entry_cases segments (offsets ++ (stages ++ blocks)) j kind e)
+
+  -- what the arithmetic answers tells which number has the kind
+  pub kinds_found : (kind : Column) (found : Option ℕ) → column_number road kind ≡ found
+      → MatchOption found ((j : ℕ) → ¬ IsColumn road j kind) (λ number. (j : ℕ) → IsColumn road j kind ↔ (j ≡ number))
+  kinds_found kind None e = λ j c. let h : Some j ≡ None = sym (column_number-from_IsColumn kind j c) ∙ e in cc
+  kinds_found kind (Some number) e =
+      λ j.
+      (λ c. let h : Some j ≡ Some number = sym (column_number-from_IsColumn kind j c) ∙ e in cc,
+      λ same. subst (λ n. IsColumn road n kind) (sym same) (IsColumn-from_number kind number e))

@@ -5,3 +5,4 @@ pub mod ListRests
 pub mod SegmentLemmas
 pub mod HeightWidths
 pub mod ColumnPlaces
+pub mod FormCounts

@@ -4,6 +4,8 @@
 
 mod check;
 mod column;
+mod columns;
+mod counts;
 mod entries;
 mod fault;
 mod heights;
@@ -14,6 +16,7 @@ mod text;
 mod volumes;
 
 pub use column::Column;
+pub use columns::column_of;
 pub use fault::Fault;
 pub use heights::{grade_along, height_along};
 pub use listed::Listed;
