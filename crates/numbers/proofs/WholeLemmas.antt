@@ -1,5 +1,5 @@
 -- Products of whole numbers of 64 bits are in range of 128 bits.
-use Rattle.std.proofs.Common.{◌^◌, ◌-◌, ◌≤◌, ◌<◌, arith}
+use Rattle.std.proofs.Common.{◌^◌, ◌-◌, ◌<◌, arith}
 use Rattle.std.specs.Prelude.{ℤ, ◌*ℤ◌, FitsSigned, unsigned_abs}
 use Rattle.std.specs.Int.{w128}
 use Rattle.algebra.proofs.Magnitudes.{unsigned_abs_mul_le, fits_w128}
