@@ -240,16 +240,19 @@ module _ (road : Road) where
 
   -- ---- and every column has that number
 
-  segment_number : (g place : ℕ) → IsNumber g (segment_count road) → segment_column road g place ≡ Some (3 * (g - 1) + place)
+  pub segment_number : (g place : ℕ) → IsNumber g (segment_count road) → segment_column road g place ≡ Some (3 * (g - 1) + place)
   segment_number g place n = column_at_true (is_number g (segment_count road)) (3 * (g - 1)) place (test_of_number g (segment_count road) n)
 
-  stage_number : (t before count place : ℕ) → IsNumber t road.stages → IsNumber place count
+  pub offset_number : (i : ℕ) → IsNumber i (section_count road) → column_at (is_number i (section_count road)) (offsets_before road) i ≡ Some (offsets_before road + i)
+  offset_number i n = column_at_true (is_number i (section_count road)) (offsets_before road) i (test_of_number i (section_count road) n)
+
+  pub stage_number : (t before count place : ℕ) → IsNumber t road.stages → IsNumber place count
       → stage_column road t before count place ≡ Some ((stages_before road + ((t - 1) * stage_width road + before)) + place)
   stage_number t before count place n m =
       column_at_true (is_number t road.stages && is_number place count) (stages_before road + ((t - 1) * stage_width road + before)) place
       (true_both (is_number t road.stages) (is_number place count) (test_of_number t road.stages n) (test_of_number place count m))
 
-  block_number : (k t : ℕ) → IsNumber k (block_count road) → 2 ≤ t → t ≤ road.stages
+  pub block_number : (k t : ℕ) → IsNumber k (block_count road) → 2 ≤ t → t ≤ road.stages
       → block_column road k t ≡ Some ((blocks_before road + (k - 1) * (road.stages - 1)) + (t - 1))
   block_number k t n low high =
       column_at_true (is_number k (block_count road) && (nat_le 2 t && nat_le t road.stages)) (blocks_before road + (k - 1) * (road.stages - 1)) (t - 1)
@@ -351,8 +354,7 @@ module _ (road : Road) where
       let of = entry_of_list_to (λ i. Offset i) (section_count road) r.0 kind l in
       let same : offsets_before road + r.0 ≡ j = omega (arith, r.1.0) in
       subst (λ c. IsNumbered j c) of.1.1
-      (column_at_true (is_number r.0 (section_count road)) (offsets_before road) r.0
-      (test_of_number r.0 (section_count road) (record { from_one = of.0; at_most = of.1.0 })) ∙ ap Some same))
+      (offset_number r.0 (record { from_one = of.0; at_most = of.1.0 }) ∙ ap Some same))
       (λ (r2 : (p : ℕ) × ((r.0 ≡ length offsets + p) × IsEntry (stages ++ blocks) p kind)).
       ⊎_elim
       (λ (l : IsEntry stages r2.0 kind).

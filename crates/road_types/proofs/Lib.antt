@@ -6,3 +6,5 @@ pub mod SegmentLemmas
 pub mod HeightWidths
 pub mod ColumnPlaces
 pub mod FormCounts
+pub mod WeightReaches
+pub mod WeightLemmas

@@ -9,11 +9,13 @@ mod counts;
 mod entries;
 mod fault;
 mod heights;
+mod lines;
 mod listed;
 mod road;
 mod segments;
 mod text;
 mod volumes;
+mod weight;
 
 pub use column::Column;
 pub use columns::column_of;
