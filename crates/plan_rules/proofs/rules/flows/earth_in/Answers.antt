@@ -2,7 +2,7 @@ use Rattle.std.proofs.Common.{◌^◌, ◌<◌, FitsSigned, rules, arith}
 use Rattle.std.specs.Prelude.{unsigned_abs}
 use Rattle.std.specs.Int.{w128}
 use Rattle.std.proofs.lemmas.Int.{ints}
-use Rattle.plan_rules.proofs.rules.flows.coming.Goals as goal
+use Rattle.plan_rules.proofs.rules.flows.earth_in.Goals as goal
 
 pub plus-requires-2 : goal.plus-requires-2
 plus-requires-2 c =

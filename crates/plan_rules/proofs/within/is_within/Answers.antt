@@ -2,7 +2,7 @@ use Rattle.std.proofs.Common.{FitsSigned}
 use Rattle.std.specs.Int.{w128}
 use Rattle.std.proofs.lemmas.Int.{to_z-of_z}
 use Rattle.plan_rules.proofs.LogicLemmas.{both_tells}
-use Rattle.plan_rules.proofs.numbers.is_within.Goals as goal
+use Rattle.plan_rules.proofs.within.is_within.Goals as goal
 
 pub returns : goal.returns
 returns c =

@@ -1,15 +1,15 @@
 -- What a plan of a road whose numbers are moderate has, in two parts: its pieces and openings, and its tables.
 use Rattle.std.specs.Prelude.{◌≡◌, ℕ, ◌-◌, ◌^◌, List, length, ℤ, pos, ◌≤ℤ◌}
+use Rattle.algebra.specs.Scale.{IsScale}
 use Rattle.road_types.specs.Numbered.{numbered}
 use Rattle.road_types.specs.declared.road.Road.{Road}
 use Rattle.road_types.specs.Road.{section_count, segment_count, access_count, block_count}
 use Rattle.plan_rules.specs.declared.plan.Plan.{Plan}
-use Rattle.plan_rules.specs.Plans.{piece_of, amount}
-use Rattle.plan_rules.specs.Fits.{IsTableOf, IsModerate, IsModeratePiece}
+use Rattle.plan_rules.specs.Plans.{IsTableOf, piece_of, amount}
+use Rattle.plan_rules.specs.Fits.{IsModerate, IsModeratePiece}
 
 pub record HasModeratePieces (road : Road) (plan : Plan) : Type 0 where
-  pub den_from : pos 1 ≤ℤ plan.den
-  pub den_to : plan.den ≤ℤ pos (2 ^ 40)
+  pub den : IsScale plan.den
   pub pieces_count : length plan.pieces ≡ segment_count road
   pub pieces : (g : ℕ) → IsModeratePiece (piece_of plan g)
   pub opens : length plan.opens ≡ block_count road
