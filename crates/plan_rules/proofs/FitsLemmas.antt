@@ -10,7 +10,7 @@ use Rattle.plan_rules.specs.declared.plan.Plan.{Plan}
 use Rattle.plan_rules.specs.Plans.{no_piece}
 use Rattle.plan_rules.specs.Fits.{Fits, IsModerate, IsModeratePiece}
 use Rattle.plan_rules.specs.inside.FitsByParts.{IsModerateRow, IsModerateTable, HasModerateTables, HasModeratePieces, HasModerateAmounts}
-use Rattle.plan_rules.proofs.NumberedLemmas.{numbered_all, all_numbered}
+use Rattle.algebra.proofs.NumberedLemmas.{numbered_all, all_numbered}
 
 moderate_zero : IsModerate (pos 0)
 moderate_zero = omega arith

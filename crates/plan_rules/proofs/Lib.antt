@@ -5,5 +5,4 @@ pub mod CostWidths
 pub mod HeightWidths
 pub mod CapsLemmas
 pub mod ScanLemmas
-pub mod NumberedLemmas
 pub mod FitsLemmas

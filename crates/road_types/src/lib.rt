@@ -7,10 +7,14 @@ mod entries;
 mod fault;
 mod heights;
 mod listed;
+pub mod ranges;
 mod road;
 mod segments;
 mod text;
 mod volumes;
+
+/// The greatest length of a road file and of a section table, in bytes.
+pub const LONGEST_FILE: usize = 4_194_304;
 
 pub use fault::Fault;
 pub use heights::{grade_along, height_along};

@@ -1,4 +1,4 @@
-// Numbers within their ranges, and names of their form.
+// Numbers within their ranges, and names of their form; the tests that a reader of roads asks too are public.
 ghost use Rattle.std.specs.Prelude.{◌≡◌};
 ghost use Rattle.std.specs.List.{list_all};
 ghost use Rattle.road_types.specs.RecordFaults.{is_between, is_station, is_height, is_grade, is_curve, is_measure, is_cost, is_cap, is_step, is_stages, is_name_byte, is_name, slab_in_range, section_in_range, hop_in_range, fixed_in_range, pit_in_range, access_in_range, block_in_range, prices_in_range, grades_in_range, limits_in_range, scales_in_range, lists_in_range, is_in_range};
@@ -6,19 +6,21 @@ ghost use Rattle.road_types.specs.RecordFaults.{is_between, is_station, is_heigh
 use crate::{Access, Block, Fixed, Hop, Pit, Road, Section, Slab};
 
 /// Whether low <= x <= high.
-pub(super) fn is_between(low: i64, high: i64, x: i64) -> bool
+pub fn is_between(low: i64, high: i64, x: i64) -> bool
     ensures { result ≡ is_between low high x }
 {
     low <= x && x <= high
 }
 
-fn is_station(x: i64) -> bool
+/// Whether a station or a knot, in whole steps, is in 0..=100000.
+pub fn is_station(x: i64) -> bool
     ensures { result ≡ is_station x }
 {
     is_between(0, 100_000, x)
 }
 
-fn is_height(x: i64) -> bool
+/// Whether a height, in mm, is in -10000000..=10000000.
+pub fn is_height(x: i64) -> bool
     ensures { result ≡ is_height x }
 {
     is_between(-10_000_000, 10_000_000, x)
@@ -30,7 +32,8 @@ fn is_grade(x: i64) -> bool
     is_between(-1_000_000, 1_000_000, x)
 }
 
-fn is_curve(x: i64) -> bool
+/// Whether a curve, in mm per step², is in 0..=1000000.
+pub fn is_curve(x: i64) -> bool
     ensures { result ≡ is_curve x }
 {
     is_between(0, 1_000_000, x)
@@ -42,19 +45,22 @@ fn is_measure(x: i64) -> bool
     is_between(-10_000_000, 10_000_000, x)
 }
 
-fn is_cost(x: i64) -> bool
+/// Whether a cost, in cost units, is in 0..=1000000.
+pub fn is_cost(x: i64) -> bool
     ensures { result ≡ is_cost x }
 {
     is_between(0, 1_000_000, x)
 }
 
-fn is_cap(x: i64) -> bool
+/// Whether a cap or a capacity, in litres, is in 0..=100000000000000.
+pub fn is_cap(x: i64) -> bool
     ensures { result ≡ is_cap x }
 {
     is_between(0, 100_000_000_000_000, x)
 }
 
-fn is_step(x: i64) -> bool
+/// Whether a step, in metres, is in 1..=1000.
+pub fn is_step(x: i64) -> bool
     ensures { result ≡ is_step x }
 {
     is_between(1, 1000, x)
@@ -78,7 +84,8 @@ fn are_name_bytes(bytes: &[u8]) -> bool
     bytes.iter().all(|b| is_name_byte(*b))
 }
 
-fn is_name(name: &str) -> bool
+/// Whether a name has 1 to 32 bytes of letters, digits, `_` and `-` of ASCII.
+pub fn is_name(name: &str) -> bool
     ensures { result ≡ is_name name.now }
 {
     1 <= name.len() && name.len() <= 32 && are_name_bytes(name.as_bytes())
@@ -136,25 +143,29 @@ fn access_in_range(a: &Access) -> bool
     is_cost(a.cost) && is_cap(a.max)
 }
 
-fn stations_in_range(stations: &[i64]) -> bool
+/// Whether every knot is in its range.
+pub fn stations_in_range(stations: &[i64]) -> bool
     ensures { result ≡ list_all is_station stations.now }
 {
     stations.iter().all(|x| is_station(*x))
 }
 
-fn sections_in_range(sections: &[Section]) -> bool
+/// Whether the station, ground, thicknesses, areas, costs and caps of every section are in their ranges.
+pub fn sections_in_range(sections: &[Section]) -> bool
     ensures { result ≡ list_all section_in_range sections.now }
 {
     sections.iter().all(|s| section_in_range(s))
 }
 
-fn hops_in_range(hops: &[Hop]) -> bool
+/// Whether the costs and caps of every hop are in their ranges.
+pub fn hops_in_range(hops: &[Hop]) -> bool
     ensures { result ≡ list_all hop_in_range hops.now }
 {
     hops.iter().all(|h| hop_in_range(h))
 }
 
-fn fixed_points_in_range(points: &[Fixed]) -> bool
+/// Whether the station and the heights of every fixed point are in their ranges.
+pub fn fixed_points_in_range(points: &[Fixed]) -> bool
     ensures { result ≡ list_all fixed_in_range points.now }
 {
     points.iter().all(|f| fixed_in_range(f))
@@ -178,7 +189,8 @@ fn blocks_in_range(blocks: &[Block]) -> bool
     blocks.iter().all(|b| is_cost(b.cost))
 }
 
-fn grades_in_range(grade: (i64, i64)) -> bool
+/// Whether both grades, in mm per step, are in -1000000..=1000000.
+pub fn grades_in_range(grade: (i64, i64)) -> bool
     ensures { result ≡ grades_in_range grade }
 {
     is_grade(grade.0) && is_grade(grade.1)
@@ -212,7 +224,7 @@ fn lists_in_range(road: &Road) -> bool
 
 /// Whether every number of the record is within its range and every name of its form.
 #[tactic(auto, unfolding(crate::specs::RecordFaults::is_in_range))]
-pub(super) fn is_in_range(road: &Road) -> bool
+pub(crate) fn is_in_range(road: &Road) -> bool
     ensures { result ≡ is_in_range road.now }
 {
     scales_in_range(road) && limits_in_range(road) && lists_in_range(road)
