@@ -181,7 +181,7 @@ fn road(alloc: Global, file: RoadFile) -> Result<Road, AllocError>
     let pits = pits(alloc, file_pits.into_vec())?;
     Ok(Road {
         step,
-        stages: number(stages),
+        stages: natural_or_zero(stages),
         knots,
         low,
         high,
