@@ -1,10 +1,12 @@
--- The forms that are due for the lines of a road's plan, and the first line that isn't of the form due at its place.
-use Rattle.std.specs.Prelude.{ℕ, ◌+◌, ◌-◌, zero, suc, List, [], ◌∷◌, ◌++◌, Option, Some, None, is_some, if◌then◌else◌, codes}
+-- The forms that are due for the lines of a road's plan, and the first line that isn't of the form due at its place: the line for
+-- which a text is refused.
+use Rattle.std.specs.Prelude.{ℕ, ◌+◌, ◌-◌, zero, suc, List, [], ◌∷◌, ◌++◌, Option, Some, None, is_some, if◌then◌else◌, codes, Result, Ok, Err}
 use Rattle.text_parts.specs.Lines.{TextLine, lines_of}
 use Rattle.road_types.specs.declared.road.Road.{Road}
 use Rattle.road_types.specs.Road.{section_count, segment_count, access_count, block_count}
-use Rattle.plan_text.specs.Forms.{Form, short_numbers, line_numbers}
-use Rattle.plan_text.specs.Plans.{den_form, piece_form, opens_form, end_form}
+use Rattle.plan_text.specs.declared.error.TextErr.{TextErr}
+use Rattle.plan_text.specs.declared.error.TextErr.TheVariants.{Bad, NoMemory}
+use Rattle.plan_text.specs.LineForms.{Form, short_numbers, line_numbers, den_form, piece_form, opens_form, end_form}
 
 -- these forms so many times
 abbrev pub times : ℕ → List Form → List Form
@@ -45,3 +47,9 @@ first_misfit road number lines = misfit_or (forms_due road) anything number line
 -- the first line of the bytes that isn't of the form due, or stands behind a whole plan text
 abbrev pub refused_line : Road → List ℕ → Option ℕ
 refused_line road bytes = misfit_or (forms_due road) nothing 0 (lines_of 0 bytes)
+
+-- of the line that a text was refused for
+abbrev pub IfBad : {A : Type 0} → Result A TextErr → (ℕ → Type 0) → Type 0
+IfBad (Ok value) P = Unit {0}
+IfBad (Err (Bad line)) P = P line
+IfBad (Err NoMemory) P = Unit {0}

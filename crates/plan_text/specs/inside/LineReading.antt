@@ -1,9 +1,10 @@
--- Reading takes lines from the front of those that are left, and ends at the first one that isn't of the form due.
+-- Reading line by line: it takes lines from the front of those that are left, and ends at the first one that isn't of the form
+-- due. Readers of longer texts go on by it.
 use Rattle.std.specs.Prelude.{ℕ, ◌≡◌, ◌+◌, zero, suc, List, [], ◌∷◌, Option, Some, None, Result, Ok, Err, ℤ}
 use Rattle.text_parts.specs.Lines.{TextLine, Reading}
 use Rattle.plan_text.specs.declared.error.TextErr.{TextErr}
 use Rattle.plan_text.specs.declared.error.TextErr.TheVariants.{Bad, NoMemory}
-use Rattle.plan_text.specs.Forms.{Form, line_numbers}
+use Rattle.plan_text.specs.LineForms.{Form, line_numbers}
 
 -- what a reader gives: a value and the reader of the lines behind it, or the number of the line that isn't of the form due
 abbrev pub Read : Type 0 → Type 0

@@ -1,29 +1,16 @@
--- The plan that the lines at the front spell, form after form.
-use Rattle.std.specs.Prelude.{ℕ, ◌-◌, ◌^◌, List, map, ℤ, pos, codes, slice_index_or, unsigned_abs}
+-- The plan that the lines at the front spell, form after form, and the plan whose text some bytes are.
+use Rattle.std.specs.Prelude.{ℕ, ◌≡◌, ◌+◌, ◌-◌, List, [], ◌∷◌, map, ℤ, pos, codes, slice_index_or, unsigned_abs, Result, Ok, Err}
+use Rattle.text_parts.specs.Lines.{TextLine, Reading, lines_of}
 use Rattle.road_types.specs.declared.road.Road.{Road}
 use Rattle.road_types.specs.Road.{section_count, segment_count, access_count, block_count}
 use Rattle.plan_rules.specs.declared.plan.Piece.{Piece}
 use Rattle.plan_rules.specs.declared.plan.Plan.{Plan}
-use Rattle.plan_text.specs.Forms.{Form, short_numbers}
-use Rattle.plan_text.specs.Reading.{Read, ◌>>=◌, give, numbers_due, repeat_due}
+use Rattle.plan_text.specs.declared.error.TextErr.{TextErr}
+use Rattle.plan_text.specs.declared.error.TextErr.TheVariants.{Bad, NoMemory}
+use Rattle.plan_text.specs.LineForms.{short_numbers, den_form, piece_form, opens_form, end_form}
+use Rattle.plan_text.specs.inside.LineReading.{Read, ◌>>=◌, give, numbers_due, repeat_due}
 use Rattle.plan_text.specs.declared.rows.Stage.{Stage}
 use Rattle.plan_text.specs.declared.rows.Tables.{Tables}
-
--- the denominator is 1 to 2^40
-abbrev pub den_form : Form
-den_form = record { keyword = codes "plan"; count = 1; low = pos 1; high = pos (2 ^ 40) }
-
--- the height, the grade and the curve of a segment
-abbrev pub piece_form : Form
-piece_form = short_numbers (codes "piece") 3
-
--- an opening stage is a byte
-abbrev pub opens_form : ℕ → Form
-opens_form blocks = record { keyword = codes "open"; count = blocks; low = pos 0; high = pos 255 }
-
--- the last line has its keyword alone
-abbrev pub end_form : Form
-end_form = short_numbers (codes "end") 0
 
 -- the number in a list of at least so many
 abbrev pub nth : List ℤ → ℕ → ℤ
@@ -77,3 +64,26 @@ plan_due road = do
   opens ← opens_due (block_count road)
   nothing ← numbers_due end_form
   give (record { den = den; pieces = pieces; cut = tables.cut; fill = tables.fill; right = tables.right; left = tables.left; roads = tables.roads; opens = opens })
+
+-- the reader of a text from its first line on
+abbrev pub start_of : List ℕ → Reading
+start_of bytes = record { source = bytes; number = 0; left = lines_of 0 bytes }
+
+-- the plan, where no line is left behind it, else the number of the first of these
+abbrev pub with_nothing_left : Plan → ℕ → List TextLine → Result Plan ℕ
+with_nothing_left plan number [] = Ok plan
+with_nothing_left plan number (line ∷ lines) = Err (number + 1)
+
+abbrev pub whole_plan : Result (Plan × Reading) ℕ → Result Plan ℕ
+whole_plan (Err line) = Err line
+whole_plan (Ok read) = with_nothing_left read.0 read.1.number read.1.left
+
+-- the plan whose text the bytes are, or the number of the line that is refused
+unfoldable pub plan_of_text : Road → List ℕ → Result Plan ℕ
+plan_of_text road bytes = whole_plan (plan_due road (start_of bytes))
+
+-- an answer is the plan, or the line that is refused; after want of memory nothing is said
+abbrev pub GivesPlan : Result Plan ℕ → Result Plan TextErr → Type 0
+GivesPlan due (Ok plan) = due ≡ Ok plan
+GivesPlan due (Err (Bad line)) = due ≡ Err line
+GivesPlan due (Err NoMemory) = Unit {0}

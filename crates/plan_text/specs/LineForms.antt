@@ -1,9 +1,11 @@
--- Each line of a plan text has a form: a keyword, and so many numbers within a range, each behind one space.
-use Rattle.std.specs.Prelude.{ℕ, ◌≡◌, ◌^◌, ◌-◌, List, [], ◌∷◌, ◌++◌, map, length, ◌&&◌, Option, Some, None, if◌then◌else◌, ◌==◌, ℤ, pos, negsuc, ◌≤ℤ◌, int_le, All}
+-- Each line of a plan text has a form: a keyword, and so many numbers within a range, each behind one space. Here stand forms, the
+-- line that spells numbers, the numbers that a line spells, and the forms of a plan's lines.
+use Rattle.std.specs.Prelude.{ℕ, ◌≡◌, ◌^◌, ◌-◌, List, [], ◌∷◌, ◌++◌, map, length, ◌&&◌, Option, Some, None, if◌then◌else◌, ◌==◌, ℤ, pos, negsuc, ◌≤ℤ◌, int_le, All, codes}
 use Rattle.std.specs.Option.{option_map, option_and_then}
 use Rattle.std.specs.List.{join_with_byte}
 use Rattle.std.specs.Str.{bytes_eq}
 use Rattle.std.specs.Fmt.{signed_decimal}
+use Rattle.algebra.specs.Scale.{greatest_scale}
 use Rattle.text_parts.specs.Words.{words_of, space}
 use Rattle.text_parts.specs.Lines.{TextLine, line_feed}
 use Rattle.text_parts.specs.Decimal.{whole_of, IsShort}
@@ -44,14 +46,14 @@ abbrev pub in_range : Form → ℤ → Option ℤ
 in_range form n = if int_le form.low n && int_le n form.high then Some n else None
 
 -- the number that a word spells, if it is one of the form
-unfoldable pub number_of : Form → List ℕ → Option ℤ
-number_of form word = option_and_then (in_range form) (whole_of word)
+unfoldable pub word_number : Form → List ℕ → Option ℤ
+word_number form word = option_and_then (in_range form) (whole_of word)
 
 -- the numbers that the words spell, if each is one of the form
 abbrev pub numbers_of : Form → List (List ℕ) → Option (List ℤ)
 numbers_of form [] = Some []
 numbers_of form (word ∷ words) =
-    option_and_then (λ n. option_map (λ ns. n ∷ ns) (numbers_of form words)) (number_of form word)
+    option_and_then (λ n. option_map (λ ns. n ∷ ns) (numbers_of form words)) (word_number form word)
 
 -- so many numbers
 abbrev pub so_many : ℕ → List ℤ → Option (List ℤ)
@@ -66,3 +68,19 @@ numbers_behind form (word ∷ words) =
 -- the numbers of a line, if it ends and is of this form
 unfoldable pub line_numbers : Form → TextLine → Option (List ℤ)
 line_numbers form line = if line.ended then numbers_behind form (words_of line.bytes) else None
+
+-- the denominator is 1 to the greatest scale
+abbrev pub den_form : Form
+den_form = record { keyword = codes "plan"; count = 1; low = pos 1; high = pos greatest_scale }
+
+-- the height, the grade and the curve of a segment
+abbrev pub piece_form : Form
+piece_form = short_numbers (codes "piece") 3
+
+-- an opening stage is a byte
+abbrev pub opens_form : ℕ → Form
+opens_form blocks = record { keyword = codes "open"; count = blocks; low = pos 0; high = pos 255 }
+
+-- the last line has its keyword alone
+abbrev pub end_form : Form
+end_form = short_numbers (codes "end") 0
