@@ -52,7 +52,7 @@ pub stage_cost_width : (road : Road) (plan : Plan) → IsWellFormed road → IsP
 unfolding stage_cost
 stage_cost_width road plan ok paid m t stage =
     let entries = unsigned_abs_sum_to (entry_cost road plan m t) (2 * 10 ^ 20 * 2 ^ 40) (entry_count road m)
-      (λ i low high. entry_cost_width road plan ok paid m t i stage (record { from_one = low; at_most = high })) in
+    (λ i low high. entry_cost_width road plan ok paid m t i stage (record { from_one = low; at_most = high })) in
     omega (arith, entries, few_entries road ok m)
 
 pub removal_width : (den cost : ℤ) → IsScale den → IsCost cost → unsigned_abs (den *ℤ cost) ≤ 2 ^ 60

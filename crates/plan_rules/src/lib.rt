@@ -16,8 +16,8 @@ mod within;
 pub use heights::{height_at, offset_of};
 pub use judging::judge;
 pub use plan::{Piece, Plan};
-pub use verdict::{Rule, Verdict};
 pub use road_types::table_volume;
+pub use verdict::{Rule, Verdict};
 
 #[cfg(test)]
 mod tests;

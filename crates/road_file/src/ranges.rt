@@ -4,7 +4,10 @@ ghost use Rattle.std.specs.List.{list_all};
 ghost use Rattle.road_file.specs.Ranges.{is_borrow, is_kind, is_table_name, table_in_range, pit_in_range, access_in_range, block_in_range, lists_in_range, scales_in_range, limits_in_range, file_in_range};
 
 use crate::file::{FileAccess, FileBlock, FilePit, RoadFile};
-use road_types::ranges::{fixed_points_in_range, grades_in_range, hops_in_range, is_between, is_cap, is_cost, is_curve, is_height, is_name, is_step, sections_in_range, stations_in_range};
+use road_types::ranges::{
+    fixed_points_in_range, grades_in_range, hops_in_range, is_between, is_cap, is_cost, is_curve,
+    is_height, is_name, is_step, sections_in_range, stations_in_range,
+};
 
 /// Whether a pit's kind is that of a borrow pit.
 pub(crate) fn is_borrow(kind: &str) -> bool

@@ -156,18 +156,18 @@ pub one_of_key : {A B : Type 0} (R : A → A → Bool) (key : A → B) (other : 
 one_of_key R key other xs apart h j k m n same =
     ⊎_elim (λ e. e)
     (λ o. ⊎_elim
-      (λ l. absurd (apart (numbered other xs j) (numbered other xs k) (pairs_at R xs h other j k m.from_one l n.at_most) same))
-      (λ l. absurd (apart (numbered other xs k) (numbered other xs j) (pairs_at R xs h other k j n.from_one l m.at_most) (sym same)))
-      o)
+    (λ l. absurd (apart (numbered other xs j) (numbered other xs k) (pairs_at R xs h other j k m.from_one l n.at_most) same))
+    (λ l. absurd (apart (numbered other xs k) (numbered other xs j) (pairs_at R xs h other k j n.from_one l m.at_most) (sym same)))
+    o)
     (cases_order j k)
 
 pub key_of_one : {A B : Type 0} (R : A → A → Bool) (key : A → B) (other : A) (xs : List A) → ((x y : A) → ¬ (key x ≡ key y) → R x y ≡ true)
     → ((j k : ℕ) → IsNumber j (length xs) → IsNumber k (length xs) → key (numbered other xs j) ≡ key (numbered other xs k) → j ≡ k) → all_pairs R xs ≡ true
 key_of_one R key other xs apart h =
     at_pairs R xs other (λ j k from before to.
-      apart (numbered other xs j) (numbered other xs k) (λ same.
-        let e : j ≡ k = h j k (record { from_one = from; at_most = omega arith }) (record { from_one = omega arith; at_most = to }) same in
-        omega (arith, e)))
+    apart (numbered other xs j) (numbered other xs k) (λ same.
+    let e : j ≡ k = h j k (record { from_one = from; at_most = omega arith }) (record { from_one = omega arith; at_most = to }) same in
+    omega (arith, e)))
 
 -- numbers
 

@@ -311,9 +311,10 @@ IsWellFormed-from_rules road r =
 tests_of_slab : (s : Slab) → IsSolidSlab s → (slab_in_range s ≡ true) × (is_solid s ≡ true)
 tests_of_slab s h =
     let thick : is_measure s.thick ≡ true = test_of_between (neg_ℤ (pos 10000000)) (pos 10000000) s.thick (record { at_least = omega (arith, ints, h.thick.at_least); at_most = h.thick.at_most }) in
-    let area : is_measure s.area ≡ true = test_of_between (neg_ℤ (pos 10000000)) (pos 10000000) s.area (record { at_least = omega (arith, ints, h.area.at_least); at_most = h.area.at_most }) in
-    (true_both (is_measure s.thick) (is_measure s.area) thick area,
-    true_both (int_le (pos 1) s.thick) (int_le (pos 1) s.area) (test_of_le (pos 1) s.thick h.thick.at_least) (test_of_le (pos 1) s.area h.area.at_least))
+    let area : is_measure s.area ≡ true = test_of_between (neg_ℤ (pos 10000000)) (pos 10000000) s.area (record { at_least = omega (arith, ints, h.area.at_least); at_most = h.area.at_most }) in (
+      true_both (is_measure s.thick) (is_measure s.area) thick area,
+      true_both (int_le (pos 1) s.thick) (int_le (pos 1) s.area) (test_of_le (pos 1) s.thick h.thick.at_least) (test_of_le (pos 1) s.area h.area.at_least),
+    )
 
 no_slab : Slab
 no_slab = record { thick = pos 0; area = pos 0 }
@@ -357,9 +358,9 @@ tests_of_section road two s h =
     let cut = tests_of_table s.cut h.cut in
     let fill = tests_of_table s.fill h.fill in
     let prices = true_four (is_cost s.cut_cost) (is_cost s.fill_cost) (is_cap s.cut_max) (is_cap s.fill_max)
-      (record { first = cost_test s.cut_cost h.cut_cost; second = cost_test s.fill_cost h.fill_cost; third = cap_test s.cut_max h.cut_max; fourth = cap_test s.fill_max h.fill_max }) in
+    (record { first = cost_test s.cut_cost h.cut_cost; second = cost_test s.fill_cost h.fill_cost; third = cap_test s.cut_max h.cut_max; fourth = cap_test s.fill_max h.fill_max }) in
     let ranges = true_four (is_station s.station) (is_height s.ground) (list_all slab_in_range s.cut) (list_all slab_in_range s.fill)
-      (record { first = station_test s.station h.station; second = height_test s.ground h.height_of_ground; third = cut.first; fourth = fill.first }) in
+    (record { first = station_test s.station h.station; second = height_test s.ground h.height_of_ground; third = cut.first; fourth = fill.first }) in
     record {
       first = true_both (is_station s.station && is_height s.ground && list_all slab_in_range s.cut && list_all slab_in_range s.fill) (prices_in_range s) ranges prices;
       second = true_both (is_table s.cut) (is_table s.fill) cut.second fill.second;
@@ -376,7 +377,7 @@ tests_of_fixed : (road : Road) → 2 ≤ length road.knots → (f : Fixed) → I
 tests_of_fixed road two f h =
     record {
       first = true_three (is_station f.station) (is_height f.low) (is_height f.high)
-        (record { first = station_test f.station h.station; second = height_test f.low h.low; third = height_test f.high h.high });
+          (record { first = station_test f.station h.station; second = height_test f.low h.low; third = height_test f.high h.high });
       second = test_of_le f.low f.high h.ordered;
       third = knots_on road two f.station h.on_knots;
     }
@@ -419,86 +420,86 @@ KeepsRules-from_facts road w =
     let fixed = λ (f : ℕ) (n : IsNumber f (fixed_count road)). tests_of_fixed road two (fixed_point road f) (w.fixed f n) in
     let roads = λ (q : ℕ) (n : IsNumber q (access_count road)). tests_of_access road (access road q) (w.roads q n) in
     let scales = true_three (is_step road.step) (is_stages road.stages) (list_all is_station road.knots)
-      (record {
-        first = test_of_between (pos 1) (pos 1000) road.step w.step;
-        second = true_both (nat_le 1 road.stages) (nat_le road.stages 4) (test_of_nat_le 1 road.stages c.stages_from) (test_of_nat_le road.stages 4 c.stages_to);
-        third = numbered_test is_station road.knots (pos 0) (λ k n. station_test (numbered (pos 0) road.knots k) (w.knots_in_range k n));
-      }) in
+    (record {
+      first = test_of_between (pos 1) (pos 1000) road.step w.step;
+      second = true_both (nat_le 1 road.stages) (nat_le road.stages 4) (test_of_nat_le 1 road.stages c.stages_from) (test_of_nat_le road.stages 4 c.stages_to);
+      third = numbered_test is_station road.knots (pos 0) (λ k n. station_test (numbered (pos 0) road.knots k) (w.knots_in_range k n));
+    }) in
     let limits = true_four (is_height road.low) (is_height road.high) (grades_in_range road.grade) (is_curve road.curve)
-      (record {
-        first = height_test road.low w.low;
-        second = height_test road.high w.high;
-        third = true_both (is_grade road.grade.0) (is_grade road.grade.1) (grade_test road.grade.0 w.grade_low) (grade_test road.grade.1 w.grade_high);
-        fourth = curve_test road.curve w.curve;
-      }) in
+    (record {
+      first = height_test road.low w.low;
+      second = height_test road.high w.high;
+      third = true_both (is_grade road.grade.0) (is_grade road.grade.1) (grade_test road.grade.0 w.grade_low) (grade_test road.grade.1 w.grade_high);
+      fourth = curve_test road.curve w.curve;
+    }) in
     let stretch = true_four (list_all section_in_range road.sections) (list_all hop_in_range road.hops) (list_all fixed_in_range road.fixed) (list_all pit_in_range road.pits)
-      (record {
-        first = numbered_test section_in_range road.sections no_section (λ i n. (sections i n).first);
-        second = numbered_test hop_in_range road.hops no_hop (λ h n. test_of_hop (hop road h) (w.hops h n));
-        third = numbered_test fixed_in_range road.fixed no_fixed (λ f n. (fixed f n).first);
-        fourth = numbered_test pit_in_range road.pits no_pit (λ p n. test_of_pit (pit road p) (w.pits p n));
-      }) in
+    (record {
+      first = numbered_test section_in_range road.sections no_section (λ i n. (sections i n).first);
+      second = numbered_test hop_in_range road.hops no_hop (λ h n. test_of_hop (hop road h) (w.hops h n));
+      third = numbered_test fixed_in_range road.fixed no_fixed (λ f n. (fixed f n).first);
+      fourth = numbered_test pit_in_range road.pits no_pit (λ p n. test_of_pit (pit road p) (w.pits p n));
+    }) in
     let lists = true_three
-      (list_all section_in_range road.sections && list_all hop_in_range road.hops && list_all fixed_in_range road.fixed && list_all pit_in_range road.pits)
-      (list_all access_in_range road.roads)
-      (list_all block_in_range road.blocks)
-      (record {
-        first = stretch;
-        second = numbered_test access_in_range road.roads no_access (λ q n. (roads q n).first);
-        third = numbered_test block_in_range road.blocks no_block (λ k n. cost_test (block road k).cost (w.blocks k n).cost);
-      }) in
+    (list_all section_in_range road.sections && list_all hop_in_range road.hops && list_all fixed_in_range road.fixed && list_all pit_in_range road.pits)
+    (list_all access_in_range road.roads)
+    (list_all block_in_range road.blocks)
+    (record {
+      first = stretch;
+      second = numbered_test access_in_range road.roads no_access (λ q n. (roads q n).first);
+      third = numbered_test block_in_range road.blocks no_block (λ k n. cost_test (block road k).cost (w.blocks k n).cost);
+    }) in
     let along = true_four (nat_le 1 (length road.sections)) (nat_le (length road.sections) 60) (nat_le (length road.knots) 9) (list_all has_few_slabs road.sections)
-      (record {
-        first = test_of_nat_le 1 (length road.sections) c.sections_from;
-        second = test_of_nat_le (length road.sections) 60 c.sections_to;
-        third = test_of_nat_le (length road.knots) 9 c.knots_to;
-        fourth = numbered_test has_few_slabs road.sections no_section (λ i n. (sections i n).third);
-      }) in
+    (record {
+      first = test_of_nat_le 1 (length road.sections) c.sections_from;
+      second = test_of_nat_le (length road.sections) 60 c.sections_to;
+      third = test_of_nat_le (length road.knots) 9 c.knots_to;
+      fourth = numbered_test has_few_slabs road.sections no_section (λ i n. (sections i n).third);
+    }) in
     let most = true_four (stretch_counts_hold road) (nat_le (length road.pits) 8) (nat_le (length road.roads) 16) (nat_le (length road.fixed) 20)
-      (record {
-        first = true_both
+    (record {
+      first = true_both
           (nat_le 1 (length road.sections) && nat_le (length road.sections) 60 && nat_le (length road.knots) 9 && list_all has_few_slabs road.sections)
           (length road.hops == length road.sections - 1)
           along
           (test_of_nat_eq (length road.hops) (length road.sections - 1) c.hops_count);
-        second = test_of_nat_le (length road.pits) 8 c.pits_to;
-        third = test_of_nat_le (length road.roads) 16 c.roads_to;
-        fourth = test_of_nat_le (length road.fixed) 20 c.fixed_to;
-      }) in
+      second = test_of_nat_le (length road.pits) 8 c.pits_to;
+      third = test_of_nat_le (length road.roads) 16 c.roads_to;
+      fourth = test_of_nat_le (length road.fixed) 20 c.fixed_to;
+    }) in
     record {
       ranges = true_three (scales_in_range road) (limits_in_range road) (lists_in_range road) (record { first = scales; second = limits; third = lists });
       stations = at_neighbours comes_before road.sections no_section (stations_tests road w);
       knots = true_three (nat_le 2 (length road.knots)) (rises road.knots) (sections_on_knots road.knots road.sections)
-        (record {
-          first = test_of_nat_le 2 (length road.knots) two;
-          second = at_neighbours int_lt road.knots (pos 0) (knots_tests road w);
-          third = numbered_test (section_on_knots road.knots) road.sections no_section (λ i n. (sections i n).fourth);
-        });
+          (record {
+            first = test_of_nat_le 2 (length road.knots) two;
+            second = at_neighbours int_lt road.knots (pos 0) (knots_tests road w);
+            third = numbered_test (section_on_knots road.knots) road.sections no_section (λ i n. (sections i n).fourth);
+          });
       tables = numbered_test has_tables road.sections no_section (λ i n. (sections i n).second);
       lows = true_three (int_le road.low road.high) (int_le road.grade.0 road.grade.1) (list_all low_holds road.fixed)
-        (record {
-          first = test_of_le road.low road.high w.low_high;
-          second = test_of_le road.grade.0 road.grade.1 w.grade_ordered;
-          third = numbered_test low_holds road.fixed no_fixed (λ f n. (fixed f n).second);
-        });
+          (record {
+            first = test_of_le road.low road.high w.low_high;
+            second = test_of_le road.grade.0 road.grade.1 w.grade_ordered;
+            third = numbered_test low_holds road.fixed no_fixed (λ f n. (fixed f n).second);
+          });
       pits = true_both (names_differ road.pits) (list_all (has_pit (length road.pits)) road.roads)
-        (key_of_one differs_from (λ (p : Pit). p.name) no_pit road.pits apart_names w.pits_differ)
-        (numbered_test (has_pit (length road.pits)) road.roads no_access (λ q n. (roads q n).second));
+          (key_of_one differs_from (λ (p : Pit). p.name) no_pit road.pits apart_names w.pits_differ)
+          (numbered_test (has_pit (length road.pits)) road.roads no_access (λ q n. (roads q n).second));
       places = true_three (list_all (stands_at_section (length road.sections)) road.roads) (list_all (block_at_section (length road.sections)) road.blocks) (list_all (point_on_knots road.knots) road.fixed)
-        (record {
-          first = numbered_test (stands_at_section (length road.sections)) road.roads no_access (λ q n. (roads q n).third);
-          second = numbered_test (block_at_section (length road.sections)) road.blocks no_block (λ k n. test_of_number (block road k).section (section_count road) (w.blocks k n).section);
-          third = numbered_test (point_on_knots road.knots) road.fixed no_fixed (λ f n. (fixed f n).third);
-        });
+          (record {
+            first = numbered_test (stands_at_section (length road.sections)) road.roads no_access (λ q n. (roads q n).third);
+            second = numbered_test (block_at_section (length road.sections)) road.blocks no_block (λ k n. test_of_number (block road k).section (section_count road) (w.blocks k n).section);
+            third = numbered_test (point_on_knots road.knots) road.fixed no_fixed (λ f n. (fixed f n).third);
+          });
       blocks = key_of_one stands_elsewhere (λ (b : Block). b.section) no_block road.blocks apart_sections w.blocks_differ;
       counts = true_both
-        (stretch_counts_hold road && nat_le (length road.pits) 8 && nat_le (length road.roads) 16 && nat_le (length road.fixed) 20)
-        (nat_le (length road.blocks) 4)
-        most
-        (test_of_nat_le (length road.blocks) 4 c.blocks_to);
+          (stretch_counts_hold road && nat_le (length road.pits) 8 && nat_le (length road.roads) 16 && nat_le (length road.fixed) 20)
+          (nat_le (length road.blocks) 4)
+          most
+          (test_of_nat_le (length road.blocks) 4 c.blocks_to);
       budgets = true_both (is_between (pos 1) (pos 4999) road.nodes) (is_between (pos 1) (pos 20000) road.pivots)
-        (test_of_between (pos 1) (pos 4999) road.nodes w.nodes)
-        (test_of_between (pos 1) (pos 20000) road.pivots w.pivots);
+          (test_of_between (pos 1) (pos 4999) road.nodes w.nodes)
+          (test_of_between (pos 1) (pos 20000) road.pivots w.pivots);
     }
 
 -- a record whose rules are all kept has no fault

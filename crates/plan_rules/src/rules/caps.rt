@@ -9,8 +9,8 @@ ghost use Rattle.plan_rules.specs.Plans.{amount};
 ghost use Rattle.plan_rules.specs.Rules.{KeepsCaps, IsPitCapped, IsAmountCapped, IsCapped, amount_count, pit_share, road_total};
 
 use crate::entries::amount_at;
-use crate::within::is_within;
 use crate::plan::Plan;
+use crate::within::is_within;
 use algebra::{at_most, plus, scaled};
 use road_types::Road;
 

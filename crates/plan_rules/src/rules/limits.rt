@@ -9,8 +9,8 @@ ghost use Rattle.plan_rules.specs.Rules.{IsInLimits, IsContinuous, EndsInGrade, 
 use crate::entries::piece_at;
 use crate::heights::{end_grade, end_height, height_on};
 use crate::logic::both;
-use crate::within::is_within;
 use crate::plan::Plan;
+use crate::within::is_within;
 use algebra::{opposite, same};
 use road_types::Road;
 

@@ -12,8 +12,8 @@ ghost use Rattle.plan_rules.specs.Rules.{HasItsVolume, IsWithin, IsLimited, fill
 
 use crate::entries::amount_at;
 use crate::heights::offset_at;
-use crate::within::is_within;
 use crate::plan::Plan;
+use crate::within::is_within;
 use algebra::{minus, opposite, plus, same};
 use road_types::{Road, Section, net_volume, thickness_of};
 

@@ -15,7 +15,7 @@ plus-requires-3 c =
     let first : FitsSigned w128 c.plus.result = search rules in
     let second : FitsSigned w128 c.plus-2.result = search rules in
     let width = four_totals c.movement_cost-cut.result c.movement_cost-fill.result c.haul_total-haul.result c.movement_cost-access.result c.plus.result c.plus-2.result
-      (simp to_z-of_z at c.plus.ensures) (simp to_z-of_z at c.plus-2.ensures) c.movement_cost-cut.ensures.width c.movement_cost-fill.ensures.width c.haul_total-haul.ensures.width c.movement_cost-access.ensures.width in
+    (simp to_z-of_z at c.plus.ensures) (simp to_z-of_z at c.plus-2.ensures) c.movement_cost-cut.ensures.width c.movement_cost-fill.ensures.width c.haul_total-haul.ensures.width c.movement_cost-access.ensures.width in
     simp to_z-of_z (fits_w128 (c.plus-2.result +ℤ c.movement_cost-access.result) (omega (arith, width)))
 
 pub plus-requires-4 : goal.plus-requires-4
@@ -29,7 +29,7 @@ plus-requires-4 c =
     let second : FitsSigned w128 c.plus-2.result = search rules in
     let third : FitsSigned w128 c.plus-3.result = search rules in
     let four = four_totals c.movement_cost-cut.result c.movement_cost-fill.result c.haul_total-haul.result c.movement_cost-access.result c.plus.result c.plus-2.result
-      (simp to_z-of_z at c.plus.ensures) (simp to_z-of_z at c.plus-2.ensures) c.movement_cost-cut.ensures.width c.movement_cost-fill.ensures.width c.haul_total-haul.ensures.width c.movement_cost-access.ensures.width in
+    (simp to_z-of_z at c.plus.ensures) (simp to_z-of_z at c.plus-2.ensures) c.movement_cost-cut.ensures.width c.movement_cost-fill.ensures.width c.haul_total-haul.ensures.width c.movement_cost-access.ensures.width in
     let so_far : unsigned_abs c.plus-3.result ≤ 240 * 10 ^ 21 * 2 ^ 40 = rw (simp to_z-of_z at c.plus-3.ensures) four in
     let width = five_totals c.plus-3.result c.removal_total.result so_far c.removal_total.ensures.width in
     simp to_z-of_z (fits_w128 (c.plus-3.result +ℤ c.removal_total.result) (omega (arith, width)))
@@ -46,7 +46,7 @@ returns-clause-width c =
     let third : FitsSigned w128 c.plus-3.result = search rules in
     let fourth : FitsSigned w128 c.plus-4.result = search rules in
     let four = four_totals c.movement_cost-cut.result c.movement_cost-fill.result c.haul_total-haul.result c.movement_cost-access.result c.plus.result c.plus-2.result
-      (simp to_z-of_z at c.plus.ensures) (simp to_z-of_z at c.plus-2.ensures) c.movement_cost-cut.ensures.width c.movement_cost-fill.ensures.width c.haul_total-haul.ensures.width c.movement_cost-access.ensures.width in
+    (simp to_z-of_z at c.plus.ensures) (simp to_z-of_z at c.plus-2.ensures) c.movement_cost-cut.ensures.width c.movement_cost-fill.ensures.width c.haul_total-haul.ensures.width c.movement_cost-access.ensures.width in
     let so_far : unsigned_abs c.plus-3.result ≤ 240 * 10 ^ 21 * 2 ^ 40 = rw (simp to_z-of_z at c.plus-3.ensures) four in
     let width = five_totals c.plus-3.result c.removal_total.result so_far c.removal_total.ensures.width in
     simp to_z-of_z (rw (simp to_z-of_z at c.plus-4.ensures) width)
