@@ -18,6 +18,3 @@ pub use judging::judge;
 pub use plan::{Piece, Plan};
 pub use road_types::table_volume;
 pub use verdict::{Rule, Verdict};
-
-#[cfg(test)]
-mod tests;

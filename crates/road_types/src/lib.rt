@@ -22,6 +22,3 @@ pub use listed::Listed;
 pub use road::{Access, Block, Fixed, Hop, Pit, PitKind, Road, Section, Slab};
 pub use text::Text;
 pub use volumes::{net_volume, table_volume, thickness_of};
-
-#[cfg(test)]
-mod tests;

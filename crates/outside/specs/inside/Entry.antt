@@ -4,7 +4,7 @@
 --     map_of part entries      the map that the entries stand for. The first entry with a name decides
 --     files_of, rooms_of      the maps of files and of rooms
 --     IsFirst name entries i, HasNone name entries      the entry at i, counted from 0, is the first with the name; none has it
-use Rattle.std.specs.Prelude.{◌≡◌, ℕ, ◌<◌, Bool, false, max, List, [], ◌∷◌, length, slice_index_or, Option, Some, None, unwrap_or}
+use Rattle.std.specs.Prelude.{◌≡◌, ℕ, ◌<◌, Bool, false, List, [], ◌∷◌, length, slice_index_or, Option, Some, None}
 use Rattle.std.specs.Ordering.{nat_cmp, eq_by_cmp}
 use Rattle.std.specs.Cmp.Lexicographic.{slice_cmp}
 use Rattle.std.specs.FinMap.{FinMap, empty, insert, remove}
@@ -18,10 +18,6 @@ pub record NamedFile : Type 0 where
 -- a name without a file or room
 abbrev pub unused : List ℕ → NamedFile
 unused name = record { name = name; file = None; room = None }
-
--- the room that stands once room for so many bytes was asked for
-abbrev pub room_with : Option ℕ → ℕ → ℕ
-room_with room bytes = max (unwrap_or room 0) bytes
 
 -- the entry has the name
 abbrev pub is_named : List ℕ → NamedFile → Bool
