@@ -70,7 +70,7 @@ shared_out : (own load : ℕ → ℕ) (entries count : ℕ) → ((q : ℕ) → I
 shared_out own load entries count h =
     total_to_swap (λ i q. cond (own q == i) 1 0 * load q) count entries
     ∙ total_to_ext (λ q. total_to (λ i. cond (own q == i) 1 0 * load q) count) load entries
-      (λ q low high. only_there (own q) count (load q) (h q (record { from_one = low; at_most = high })))
+    (λ q low high. only_there (own q) count (load q) (h q (record { from_one = low; at_most = high })))
 
 -- nothing at the first stage, and c at each later one
 from_second : (f : ℕ → ℕ) (c stages : ℕ) → 1 ≤ stages → f 1 ≡ 0 → ((t : ℕ) → 2 ≤ t → t ≤ stages → f t ≡ c) → total_to f stages ≡ (stages - 1) * c
@@ -101,7 +101,7 @@ paid_last c (suc (suc n)) some =
     let many : nat_le 2 (suc (suc n)) ≡ true = test_of_nat_le 2 (suc (suc n)) (omega arith) in
     ap (total_to (λ before. cond (before + 1 == suc (suc n)) c 0)) less
     ∙ total_to_only (λ before. cond (before + 1 == suc (suc n)) c 0) (suc n) (suc n) (omega arith) (omega arith)
-      (λ k low high differs. not_last k (suc (suc n)) c (λ e. differs (omega arith)))
+    (λ k low high differs. not_last k (suc (suc n)) c (λ e. differs (omega arith)))
     ∙ ap (λ b. cond b c 0) here
     ∙ sym (ap (λ b. cond b c 0) many)
 
@@ -163,7 +163,7 @@ module _ (road : Road) (w : IsWellFormed road) where
   offsets_weight =
       total_of-list_to (form_weight road) (offset_form road) (section_count road)
       ∙ total_to_ext (λ i. form_weight road (offset_form road i)) (λ i. offset_part (section road i)) (section_count road)
-        (λ i low high. offset_weight i (record { from_one = low; at_most = high }))
+      (λ i low high. offset_weight i (record { from_one = low; at_most = high }))
 
   joint_weight : (g : ℕ) → 1 ≤ g → g + 1 ≤ segment_count road
       → total_of (form_weight road) (next_height_form road g ∷ next_grade_form road g ∷ []) ≡ joint_load road g
@@ -181,26 +181,31 @@ module _ (road : Road) (w : IsWellFormed road) where
   joints_weight =
       total_of-flat_to (form_weight road) (λ g. next_height_form road g ∷ next_grade_form road g ∷ []) (segment_count road - 1)
       ∙ total_to_ext (λ g. total_of (form_weight road) (next_height_form road g ∷ next_grade_form road g ∷ [])) (joint_load road) (segment_count road - 1)
-        (λ g low high. joint_weight g low (omega arith))
+      (λ g low high. joint_weight g low (omega arith))
 
   ends_weight : total_of (form_weight road) (grade_end_forms road) ≡ total_to (segment_load road) (segment_count road)
   ends_weight =
       total_of-flat_to (form_weight road) (λ g. between_forms (grade_entries g (segment_length road.knots g)) road.grade.0 road.grade.1) (segment_count road)
       ∙ total_to_ext (λ g. total_of (form_weight road) (between_forms (grade_entries g (segment_length road.knots g)) road.grade.0 road.grade.1))
-        (segment_load road) (segment_count road)
-        (λ g low high. omega (arith, between_weight (grade_entries g (segment_length road.knots g)) road.grade.0 road.grade.1,
-          grade_weight g (segment_length road.knots g) (record { from_one = low; at_most = high })))
+      (segment_load road) (segment_count road)
+      (λ g low high. omega (
+        arith,
+        between_weight (grade_entries g (segment_length road.knots g)) road.grade.0 road.grade.1,
+        grade_weight g (segment_length road.knots g) (record { from_one = low; at_most = high }),
+      ))
 
   fixed_weight : total_of (form_weight road) (fixed_forms road) ≡ total_to (fixed_load road) (fixed_count road)
   fixed_weight =
       total_of-flat_to (form_weight road)
       (λ f. between_forms (station_entries road (fixed_point road f).station) (fixed_point road f).low (fixed_point road f).high) (fixed_count road)
       ∙ total_to_ext
-        (λ f. total_of (form_weight road) (between_forms (station_entries road (fixed_point road f).station) (fixed_point road f).low (fixed_point road f).high))
-        (fixed_load road) (fixed_count road)
-        (λ f low high. omega (arith,
-          between_weight (station_entries road (fixed_point road f).station) (fixed_point road f).low (fixed_point road f).high,
-          station_weight (fixed_point road f).station (w.fixed f (record { from_one = low; at_most = high })).on_knots))
+      (λ f. total_of (form_weight road) (between_forms (station_entries road (fixed_point road f).station) (fixed_point road f).low (fixed_point road f).high))
+      (fixed_load road) (fixed_count road)
+      (λ f low high. omega (
+        arith,
+        between_weight (station_entries road (fixed_point road f).station) (fixed_point road f).low (fixed_point road f).high,
+        station_weight (fixed_point road f).station (w.fixed f (record { from_one = low; at_most = high })).on_knots,
+      ))
 
   -- fill less cut of a section, over all stages
   moved_weight : (i : ℕ) → IsNumber i (section_count road)
@@ -208,9 +213,9 @@ module _ (road : Road) (w : IsWellFormed road) where
   moved_weight i n =
       total_of-flat_to (entry_weight road) (λ t. (Cut i t, neg_ℤ (pos 1)) ∷ (Fill i t, pos 1) ∷ []) road.stages
       ∙ total_to_same (λ t. total_of (entry_weight road) ((Cut i t, neg_ℤ (pos 1)) ∷ (Fill i t, pos 1) ∷ [])) (earth_cap (section road i)) road.stages
-        (λ t low high.
-        let m : IsNumber t road.stages = record { from_one = low; at_most = high } in
-        omega (arith, reach-Cut road i t m n, reach-Fill road i t m n))
+      (λ t low high.
+      let m : IsNumber t road.stages = record { from_one = low; at_most = high } in
+      omega (arith, reach-Cut road i t m n, reach-Fill road i t m n))
 
   -- one of the four lines
   line_weight : (i : ℕ) → IsNumber i (section_count road)
@@ -230,14 +235,14 @@ module _ (road : Road) (w : IsWellFormed road) where
   volume_weight i n =
       let s = section road i in
       let right : unsigned_abs (pos 2 *ℤ (widest_area s *ℤ deepest s)) ≡ 2 * line_load s =
-          double (widest_area s *ℤ deepest s) ∙ ap (λ x. 2 * x) (unsigned_abs-mul (widest_area s) (deepest s)) in
+      double (widest_area s *ℤ deepest s) ∙ ap (λ x. 2 * x) (unsigned_abs-mul (widest_area s) (deepest s)) in
       omega (arith, right, line_weight i n, negated_weight (volume_entries road i (widest_area s)))
 
   volumes_weight : total_of (form_weight road) (volume_forms road (λ i. heaviest_lines (section road i))) ≡ total_to (λ i. volume_part (section road i)) (section_count road)
   volumes_weight =
       total_of-flat_to (form_weight road) (λ i. lines_forms road i (heaviest_lines (section road i))) (section_count road)
       ∙ total_to_ext (λ i. total_of (form_weight road) (lines_forms road i (heaviest_lines (section road i)))) (λ i. volume_part (section road i)) (section_count road)
-        (λ i low high. volume_weight i (record { from_one = low; at_most = high }))
+      (λ i low high. volume_weight i (record { from_one = low; at_most = high }))
 
   pub section_rows_weight : total_of (form_weight road) (section_forms road (λ i. heaviest_lines (section road i)))
       ≡ (total_to (λ i. offset_part (section road i)) (section_count road) + total_to (λ i. volume_part (section road i)) (section_count road))
@@ -280,15 +285,15 @@ module _ (road : Road) (w : IsWellFormed road) where
   accesses_weight i t m =
       total_of-list_to (entry_weight road) (λ q. (Access q t, brought road i q)) (access_count road)
       ∙ total_to_ext (λ q. unsigned_abs (brought road i q) * reach_in road (Access q t)) (λ q. cond ((access road q).section == i) 1 0 * access_cap q) (access_count road)
-        (λ q low high.
-        let n : IsNumber q (access_count road) = record { from_one = low; at_most = high } in
-        ap (λ x. x * reach_in road (Access q t)) (brought_load ((access road q).section == i) (pit road (access road q).pit).kind)
-        ∙ ap (λ r. cond ((access road q).section == i) 1 0 * r) (reach-Access road q t m n))
+      (λ q low high.
+      let n : IsNumber q (access_count road) = record { from_one = low; at_most = high } in
+      ap (λ x. x * reach_in road (Access q t)) (brought_load ((access road q).section == i) (pit road (access road q).pit).kind)
+      ∙ ap (λ r. cond ((access road q).section == i) 1 0 * r) (reach-Access road q t m n))
 
   balance_weight : (t i : ℕ) → IsNumber t road.stages → IsNumber i (section_count road) → form_weight road (balance_form road t i) ≡ balance_part i
   balance_weight t i m n =
       let hauled : List (Column × ℤ) =
-          (Cut i t, pos 1) ∷ (Fill i t, neg_ℤ (pos 1)) ∷ (Right (i - 1) t, pos 1) ∷ (Right i t, neg_ℤ (pos 1)) ∷ (Left (i - 1) t, neg_ℤ (pos 1)) ∷ (Left i t, pos 1) ∷ [] in
+      (Cut i t, pos 1) ∷ (Fill i t, neg_ℤ (pos 1)) ∷ (Right (i - 1) t, pos 1) ∷ (Right i t, neg_ℤ (pos 1)) ∷ (Left (i - 1) t, neg_ℤ (pos 1)) ∷ (Left i t, pos 1) ∷ [] in
       let both = total_of-append (entry_weight road) hauled (list_to (λ q. (Access q t, brought road i q)) (access_count road)) in
       omega (
         arith,
@@ -334,10 +339,10 @@ module _ (road : Road) (w : IsWellFormed road) where
   balances_weight =
       total_of-flat_to (form_weight road) (λ t. list_to (balance_form road t) (section_count road)) road.stages
       ∙ total_to_same (λ t. total_of (form_weight road) (list_to (balance_form road t) (section_count road))) (total_to balance_part (section_count road)) road.stages
-        (λ t low high.
-        total_of-list_to (form_weight road) (balance_form road t) (section_count road)
-        ∙ total_to_ext (λ i. form_weight road (balance_form road t i)) balance_part (section_count road)
-          (λ i a b. balance_weight t i (record { from_one = low; at_most = high }) (record { from_one = a; at_most = b })))
+      (λ t low high.
+      total_of-list_to (form_weight road) (balance_form road t) (section_count road)
+      ∙ total_to_ext (λ i. form_weight road (balance_form road t i)) balance_part (section_count road)
+      (λ i a b. balance_weight t i (record { from_one = low; at_most = high }) (record { from_one = a; at_most = b })))
 
   -- what access roads take of pit p
   abbrev taken_share : ℕ → ℕ
@@ -348,25 +353,25 @@ module _ (road : Road) (w : IsWellFormed road) where
   taken_weight p t m =
       total_of-list_to (entry_weight road) (λ q. (Access q t, taken road p q)) (access_count road)
       ∙ total_to_ext (λ q. unsigned_abs (taken road p q) * reach_in road (Access q t)) (λ q. cond ((access road q).pit == p) 1 0 * access_cap q) (access_count road)
-        (λ q low high.
-        let n : IsNumber q (access_count road) = record { from_one = low; at_most = high } in
-        ap (λ x. x * reach_in road (Access q t)) (taken_load ((access road q).pit == p))
-        ∙ ap (λ r. cond ((access road q).pit == p) 1 0 * r) (reach-Access road q t m n))
+      (λ q low high.
+      let n : IsNumber q (access_count road) = record { from_one = low; at_most = high } in
+      ap (λ x. x * reach_in road (Access q t)) (taken_load ((access road q).pit == p))
+      ∙ ap (λ r. cond ((access road q).pit == p) 1 0 * r) (reach-Access road q t m n))
 
   pit_weight : (p : ℕ) → form_weight road (pit_form road p) ≡ road.stages * taken_share p + pit_load road p
   pit_weight p =
       let amounts =
-          total_of-flat_to (entry_weight road) (λ t. list_to (λ q. (Access q t, taken road p q)) (access_count road)) road.stages
-          ∙ total_to_same (λ t. total_of (entry_weight road) (list_to (λ q. (Access q t, taken road p q)) (access_count road))) (taken_share p) road.stages
-            (λ t low high. taken_weight p t (record { from_one = low; at_most = high })) in
+      total_of-flat_to (entry_weight road) (λ t. list_to (λ q. (Access q t, taken road p q)) (access_count road)) road.stages
+      ∙ total_to_same (λ t. total_of (entry_weight road) (list_to (λ q. (Access q t, taken road p q)) (access_count road))) (taken_share p) road.stages
+      (λ t low high. taken_weight p t (record { from_one = low; at_most = high })) in
       omega (arith, amounts, opposite_load (pit road p).capacity)
 
   pits_weight : total_of (form_weight road) (pit_forms road) ≡ road.stages * total_to access_cap (access_count road) + total_to (pit_load road) (pit_count road)
   pits_weight =
       let each =
-          total_of-list_to (form_weight road) (pit_form road) (pit_count road)
-          ∙ total_to_ext (λ p. form_weight road (pit_form road p)) (λ p. road.stages * taken_share p + pit_load road p) (pit_count road) (λ p low high. pit_weight p)
-          ∙ total_to_add (λ p. road.stages * taken_share p) (pit_load road) (pit_count road) in
+      total_of-list_to (form_weight road) (pit_form road) (pit_count road)
+      ∙ total_to_ext (λ p. form_weight road (pit_form road p)) (λ p. road.stages * taken_share p + pit_load road p) (pit_count road) (λ p low high. pit_weight p)
+      ∙ total_to_add (λ p. road.stages * taken_share p) (pit_load road) (pit_count road) in
       let stages = total_to_mul_left road.stages taken_share (pit_count road) in
       let roads = shared_out (λ q. (access road q).pit) access_cap (access_count road) (pit_count road) (λ q m. (w.roads q m).pit) in
       let product = ap (λ x. road.stages * x) roads in
@@ -413,21 +418,21 @@ module _ (road : Road) (w : IsWellFormed road) where
       let cap = unsigned_abs (section road i).cut_max + hauls in
       let opened : ℕ → ℕ = λ t. hauls * reach_in road (Opened k t) in
       let each =
-          total_of-list_to (form_weight road) (transit_form road k) road.stages
-          ∙ total_to_ext (λ t. form_weight road (transit_form road k t)) (λ t. cap + opened t) road.stages
-            (λ t low high. transit_weight k t n (record { from_one = low; at_most = high }))
-          ∙ total_to_add (λ t. cap) opened road.stages in
+      total_of-list_to (form_weight road) (transit_form road k) road.stages
+      ∙ total_to_ext (λ t. form_weight road (transit_form road k t)) (λ t. cap + opened t) road.stages
+      (λ t low high. transit_weight k t n (record { from_one = low; at_most = high }))
+      ∙ total_to_add (λ t. cap) opened road.stages in
       let caps = total_to_same (λ t. cap) cap road.stages (λ t low high. refl) in
       let later = from_second opened hauls road.stages w.counted.stages_from
-          (ap (λ r. hauls * r) (reach-Opened-first road k) ∙ omega arith)
-          (λ t low high. ap (λ r. hauls * r) (reach-Opened road k t n low high) ∙ omega arith) in
+      (ap (λ r. hauls * r) (reach-Opened-first road k) ∙ omega arith)
+      (λ t low high. ap (λ r. hauls * r) (reach-Opened road k t n low high) ∙ omega arith) in
       omega (arith, each, caps, later)
 
   transits_weight : total_of (form_weight road) (transit_forms road) ≡ total_to transit_part (block_count road)
   transits_weight =
       total_of-flat_to (form_weight road) (λ k. list_to (transit_form road k) road.stages) (block_count road)
       ∙ total_to_ext (λ k. total_of (form_weight road) (list_to (transit_form road k) road.stages)) transit_part (block_count road)
-        (λ k low high. transit_of_block k (record { from_one = low; at_most = high }))
+      (λ k low high. transit_of_block k (record { from_one = low; at_most = high }))
 
   abbrev stop_part : ℕ → ℕ
   stop_part k = (road.stages - 1) * (3 * earth_cap (section road (block road k).section))
@@ -448,14 +453,14 @@ module _ (road : Road) (w : IsWellFormed road) where
       total_of-flat_to (form_weight road)
       (λ k. flat_to (λ before. cut_stop_form road k (before + 1) ∷ fill_stop_form road k (before + 1) ∷ []) (road.stages - 1)) (block_count road)
       ∙ total_to_ext
-        (λ k. total_of (form_weight road) (flat_to (λ before. cut_stop_form road k (before + 1) ∷ fill_stop_form road k (before + 1) ∷ []) (road.stages - 1)))
-        stop_part (block_count road)
-        (λ k low high.
-        total_of-flat_to (form_weight road) (λ before. cut_stop_form road k (before + 1) ∷ fill_stop_form road k (before + 1) ∷ []) (road.stages - 1)
-        ∙ total_to_same
-          (λ before. total_of (form_weight road) (cut_stop_form road k (before + 1) ∷ fill_stop_form road k (before + 1) ∷ []))
-          (3 * earth_cap (section road (block road k).section)) (road.stages - 1)
-          (λ before a b. stop_weight k (before + 1) (record { from_one = low; at_most = high }) (omega arith) (omega arith)))
+      (λ k. total_of (form_weight road) (flat_to (λ before. cut_stop_form road k (before + 1) ∷ fill_stop_form road k (before + 1) ∷ []) (road.stages - 1)))
+      stop_part (block_count road)
+      (λ k low high.
+      total_of-flat_to (form_weight road) (λ before. cut_stop_form road k (before + 1) ∷ fill_stop_form road k (before + 1) ∷ []) (road.stages - 1)
+      ∙ total_to_same
+      (λ before. total_of (form_weight road) (cut_stop_form road k (before + 1) ∷ fill_stop_form road k (before + 1) ∷ []))
+      (3 * earth_cap (section road (block road k).section)) (road.stages - 1)
+      (λ before a b. stop_weight k (before + 1) (record { from_one = low; at_most = high }) (omega arith) (omega arith)))
 
   order_weight : (k t : ℕ) → IsNumber k (block_count road) → 2 ≤ t → t + 1 ≤ road.stages → form_weight road (order_form road k t) ≡ 2
   order_weight k t n low high = omega (arith, reach-Opened road k t n low (omega arith), reach-Opened road k (t + 1) n (omega arith) high)
@@ -464,12 +469,12 @@ module _ (road : Road) (w : IsWellFormed road) where
   orders_weight =
       total_of-flat_to (form_weight road) (λ k. list_to (λ before. order_form road k (before + 1)) (road.stages - 2)) (block_count road)
       ∙ total_to_ext (λ k. total_of (form_weight road) (list_to (λ before. order_form road k (before + 1)) (road.stages - 2)))
-        (λ k. 2 * (road.stages - 2)) (block_count road)
-        (λ k low high.
-        total_of-list_to (form_weight road) (λ before. order_form road k (before + 1)) (road.stages - 2)
-        ∙ total_to_same (λ before. form_weight road (order_form road k (before + 1))) 2 (road.stages - 2)
-          (λ before a b. order_weight k (before + 1) (record { from_one = low; at_most = high }) (omega arith) (omega arith))
-        ∙ omega arith)
+      (λ k. 2 * (road.stages - 2)) (block_count road)
+      (λ k low high.
+      total_of-list_to (form_weight road) (λ before. order_form road k (before + 1)) (road.stages - 2)
+      ∙ total_to_same (λ before. form_weight road (order_form road k (before + 1))) 2 (road.stages - 2)
+      (λ before a b. order_weight k (before + 1) (record { from_one = low; at_most = high }) (omega arith) (omega arith))
+      ∙ omega arith)
 
   pub haul_rows_weight : total_of (form_weight road) (haul_forms road)
       ≡ (road.stages * total_to balance_part (section_count road)
@@ -510,7 +515,7 @@ module _ (road : Road) (w : IsWellFormed road) where
   capped_costs kind cost cap count h =
       total_of-list_to cost_weight kind count
       ∙ total_to_ext (λ k. cost_weight (kind k)) (λ k. unsigned_abs (cost k) * unsigned_abs (cap k)) count
-        (λ k low high. h k ∙ ap (λ r. unsigned_abs (cost k) * r) (omega arith))
+      (λ k low high. h k ∙ ap (λ r. unsigned_abs (cost k) * r) (omega arith))
 
   stage_costs : (t : ℕ) → total_of cost_weight (stage_columns road t)
       ≡ total_to (λ i. earth_cost (section road i)) (section_count road) + (total_to (λ h. hop_cost (hop road h)) (hop_count road) + total_to access_cost (access_count road))
@@ -527,11 +532,11 @@ module _ (road : Road) (w : IsWellFormed road) where
       let left = capped_costs (λ h. Left h t) (λ h. (hop road h).left_cost) (λ h. (hop road h).left_max) (hop_count road) (λ h. refl) in
       let across = capped_costs (λ q. Access q t) (access_unit_cost road) (λ q. (access road q).max) (access_count road) (λ q. refl) in
       let earth = total_to_add
-        (λ i. unsigned_abs (section road i).cut_cost * unsigned_abs (section road i).cut_max)
-        (λ i. unsigned_abs (section road i).fill_cost * unsigned_abs (section road i).fill_max) n in
+      (λ i. unsigned_abs (section road i).cut_cost * unsigned_abs (section road i).cut_max)
+      (λ i. unsigned_abs (section road i).fill_cost * unsigned_abs (section road i).fill_max) n in
       let hauls = total_to_add
-        (λ h. unsigned_abs (hop road h).right_cost * unsigned_abs (hop road h).right_max)
-        (λ h. unsigned_abs (hop road h).left_cost * unsigned_abs (hop road h).left_max) (hop_count road) in
+      (λ h. unsigned_abs (hop road h).right_cost * unsigned_abs (hop road h).right_max)
+      (λ h. unsigned_abs (hop road h).left_cost * unsigned_abs (hop road h).left_max) (hop_count road) in
       omega (
         arith,
         total_of-append cost_weight cuts (fills ++ (rights ++ (lefts ++ roads))),
@@ -562,7 +567,7 @@ module _ (road : Road) (w : IsWellFormed road) where
   block_costs k n =
       total_of-list_to cost_weight (λ before. Opened k (before + 1)) (road.stages - 1)
       ∙ total_to_ext (λ before. cost_weight (Opened k (before + 1))) (λ before. cond (before + 1 == road.stages) (unsigned_abs (block road k).cost) 0) (road.stages - 1)
-        (λ before low high. removal_weight k before n low high)
+      (λ before low high. removal_weight k before n low high)
       ∙ paid_last (unsigned_abs (block road k).cost) road.stages w.counted.stages_from
 
   columns_cost : total_of cost_weight (columns_of road)
@@ -575,20 +580,20 @@ module _ (road : Road) (w : IsWellFormed road) where
       let stages : List Column = flat_to (stage_columns road) road.stages in
       let blocks : List Column = flat_to (block_columns road) (block_count road) in
       let of_segments =
-          total_of-flat_to cost_weight segment_columns (segment_count road)
-          ∙ total_to_zero (λ g. total_of cost_weight (segment_columns g)) (segment_count road) (λ g low high. segment_costs g) in
+      total_of-flat_to cost_weight segment_columns (segment_count road)
+      ∙ total_to_zero (λ g. total_of cost_weight (segment_columns g)) (segment_count road) (λ g low high. segment_costs g) in
       let of_offsets =
-          total_of-list_to cost_weight (λ i. Offset i) (section_count road)
-          ∙ total_to_zero (λ i. cost_weight (Offset i)) (section_count road) (λ i low high. omega arith) in
+      total_of-list_to cost_weight (λ i. Offset i) (section_count road)
+      ∙ total_to_zero (λ i. cost_weight (Offset i)) (section_count road) (λ i low high. omega arith) in
       let of_stages =
-          total_of-flat_to cost_weight (stage_columns road) road.stages
-          ∙ total_to_same (λ t. total_of cost_weight (stage_columns road t))
-            (total_to (λ i. earth_cost (section road i)) (section_count road) + (total_to (λ h. hop_cost (hop road h)) (hop_count road) + total_to access_cost (access_count road)))
-            road.stages (λ t low high. stage_costs t) in
+      total_of-flat_to cost_weight (stage_columns road) road.stages
+      ∙ total_to_same (λ t. total_of cost_weight (stage_columns road t))
+      (total_to (λ i. earth_cost (section road i)) (section_count road) + (total_to (λ h. hop_cost (hop road h)) (hop_count road) + total_to access_cost (access_count road)))
+      road.stages (λ t low high. stage_costs t) in
       let of_blocks =
-          total_of-flat_to cost_weight (block_columns road) (block_count road)
-          ∙ total_to_ext (λ k. total_of cost_weight (block_columns road k)) removal_part (block_count road)
-            (λ k low high. block_costs k (record { from_one = low; at_most = high })) in
+      total_of-flat_to cost_weight (block_columns road) (block_count road)
+      ∙ total_to_ext (λ k. total_of cost_weight (block_columns road k)) removal_part (block_count road)
+      (λ k low high. block_costs k (record { from_one = low; at_most = high })) in
       omega (
         arith,
         total_of-append cost_weight segments (offsets ++ (stages ++ blocks)),
@@ -609,11 +614,11 @@ module _ (road : Road) (w : IsWellFormed road) where
       let by_number : ℕ → ℕ = λ j. unsigned_abs (numbered (pos 0) weighed.costs j) * reach (numbered (pos 0, pos 0) weighed.bounds j) in
       ap (total_to by_number) (length-map (columns_of road) bounds)
       ∙ total_to_of by_number cost_weight (columns_of road)
-        (λ j kind e.
-        let cost = numbered-map_entry (unit_cost road) (pos 0) (columns_of road) j kind e in
-        let bound = numbered-map_entry bounds (pos 0, pos 0) (columns_of road) j kind e in
-        ap (λ x. unsigned_abs x * reach (numbered (pos 0, pos 0) weighed.bounds j)) cost
-        ∙ ap (λ b. unsigned_abs (unit_cost road kind) * reach b) bound)
+      (λ j kind e.
+      let cost = numbered-map_entry (unit_cost road) (pos 0) (columns_of road) j kind e in
+      let bound = numbered-map_entry bounds (pos 0, pos 0) (columns_of road) j kind e in
+      ap (λ x. unsigned_abs x * reach (numbered (pos 0, pos 0) weighed.bounds j)) cost
+      ∙ ap (λ b. unsigned_abs (unit_cost road kind) * reach b) bound)
 
   -- ---- all of it
 

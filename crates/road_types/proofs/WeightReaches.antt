@@ -165,7 +165,7 @@ module _ (road : Road) where
       reach_there (Offset i) _ (offset_number road i n)
       ∙ (ap reach (whole_at i)
       ∙ whole_reach (thickness_of (section road i).cut) (thickness_of (section road i).fill)
-        (thickness_from (section road i).cut cut.solid) (thickness_from (section road i).fill fill.solid))
+      (thickness_from (section road i).cut cut.solid) (thickness_from (section road i).fill fill.solid))
 
   pub reach-Cut : (i t : ℕ) → IsNumber t road.stages → IsNumber i (section_count road) → reach_in (Cut i t) ≡ unsigned_abs (section road i).cut_max
   unfolding column_number

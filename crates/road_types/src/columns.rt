@@ -36,8 +36,17 @@ fn number_of(road: &Road, kind: Column) -> Option<usize>
         Column::Fill { section, stage } => stage_column(road, stage, sections, sections, section),
         Column::Right { hop, stage } => stage_column(road, stage, 2 * sections, hops, hop),
         Column::Left { hop, stage } => stage_column(road, stage, 2 * sections + hops, hops, hop),
-        Column::Access { road: number, stage } => {
-            stage_column(road, stage, 2 * sections + 2 * hops, road.roads.len(), number)
+        Column::Access {
+            road: number,
+            stage,
+        } => {
+            stage_column(
+                road,
+                stage,
+                2 * sections + 2 * hops,
+                road.roads.len(),
+                number,
+            )
         }
         Column::Opened { block, stage } => block_column(road, block, stage),
     }
@@ -78,7 +87,13 @@ fn offset_column(road: &Road, section: usize) -> Option<usize>
 }
 
 /// The column at a place among so many of a stage, behind others of that stage.
-fn stage_column(road: &Road, stage: usize, before: usize, count: usize, place: usize) -> Option<usize>
+fn stage_column(
+    road: &Road,
+    stage: usize,
+    before: usize,
+    count: usize,
+    place: usize,
+) -> Option<usize>
     requires counted { IsCounted road.now }
     requires before { before ≤ 300 }
     requires count { count ≤ 100 }

@@ -11,11 +11,18 @@ mod fault;
 mod heights;
 mod lines;
 mod listed;
+pub mod ranges;
 mod road;
 mod segments;
 mod text;
 mod volumes;
 mod weight;
+
+/// The greatest length of a road file and of a section table, in bytes.
+pub const LONGEST_FILE: usize = 4_194_304;
+
+/// The greatest weight of a road: 2^46.
+pub const GREATEST_WEIGHT: i128 = 70_368_744_177_664;
 
 pub use column::Column;
 pub use columns::column_of;
@@ -25,6 +32,3 @@ pub use listed::Listed;
 pub use road::{Access, Block, Fixed, Hop, Pit, PitKind, Road, Section, Slab};
 pub use text::Text;
 pub use volumes::{net_volume, table_volume, thickness_of};
-
-#[cfg(test)]
-mod tests;

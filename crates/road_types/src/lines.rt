@@ -16,7 +16,10 @@ pub(crate) fn widest_area(section: &Section) -> i64
     ensures from { pos 0 ≤ℤ result }
     ensures to { result ≤ℤ pos 10000000 }
 {
-    greatest_area(section.fill.as_slice(), greatest_area(section.cut.as_slice(), 0))
+    greatest_area(
+        section.fill.as_slice(),
+        greatest_area(section.cut.as_slice(), 0),
+    )
 }
 
 /// The greatest of an area and those of some slabs.

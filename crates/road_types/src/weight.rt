@@ -155,7 +155,10 @@ fn station_load(road: &Road, station: i64) -> u128
     ensures value { result ≡ height_load road.now (unsigned_abs (steps_along road.now.knots station)) }
     ensures small { result ≤ 2 ^ 102 }
 {
-    height_load(road, magnitude(road.steps_from(road.segment_of(station), station)))
+    height_load(
+        road,
+        magnitude(road.steps_from(road.segment_of(station), station)),
+    )
 }
 
 /// The length of a segment.
@@ -275,7 +278,8 @@ fn segment_load(road: &Road, segment: usize) -> u128
     ensures value { result ≡ segment_load road.now segment }
     ensures small { result ≤ 2 ^ 110 }
 {
-    2 * grade_load(road, length(road, segment)) + (magnitude(road.grade.0) + magnitude(road.grade.1))
+    2 * grade_load(road, length(road, segment))
+        + (magnitude(road.grade.0) + magnitude(road.grade.1))
 }
 
 fn segments_load(road: &Road) -> u128
@@ -430,7 +434,8 @@ fn block_load(road: &Road, number: usize) -> u128
     ensures small { result ≤ 2 ^ 110 }
 {
     let block = road.block(number);
-    transit_load(road, block.section) + (stop_load(road, block.section) + (order_load(road) + removal_load(road, block.cost)))
+    transit_load(road, block.section)
+        + (stop_load(road, block.section) + (order_load(road) + removal_load(road, block.cost)))
 }
 
 /// The transit rows of a block at a section.

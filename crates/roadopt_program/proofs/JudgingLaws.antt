@@ -7,7 +7,8 @@ use Rattle.road_types.specs.declared.fault.Fault.{Fault}
 use Rattle.road_types.specs.declared.road.Road.{Road}
 use Rattle.road_file.specs.RoadOf.{road_of}
 use Rattle.plan_rules.specs.declared.plan.Plan.{Plan}
-use Rattle.plan_text.specs.WholeText.{IsPlanText, plan_of_text}
+use Rattle.plan_text.specs.PlanText.{IsPlanText}
+use Rattle.plan_text.specs.inside.PlanReading.{plan_of_text}
 use Rattle.plan_text.proofs.AnswerLaws.{plan_of_text-exact}
 use Rattle.roadopt_program.specs.declared.status.Status.{Status}
 use Rattle.roadopt_program.specs.declared.status.Status.TheVariants.{Done, Gap, Usage, ReadFault, WriteFault, RoadRefused, CertRefused, NoMemory, PlanBroken, PlanRefused, Missing}

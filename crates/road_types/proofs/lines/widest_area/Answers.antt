@@ -20,6 +20,6 @@ returns-clause-value c =
     let of_table : ℤ → List Slab → ℤ = λ first slabs. fold int_max first (map (λ (slab : Slab). slab.area) slabs) in
     let first : c.greatest_area.result ≡ of_table (pos 0) s.cut = c.greatest_area.ensures.value ∙ ap (of_table (pos 0)) c.as_slice-2.ensures in
     let second : c.greatest_area-2.result ≡ of_table c.greatest_area.result s.fill =
-        (simp to_z-of_z at c.greatest_area-2.ensures.value) ∙ ap (of_table c.greatest_area.result) c.as_slice.ensures in
+    (simp to_z-of_z at c.greatest_area-2.ensures.value) ∙ ap (of_table c.greatest_area.result) c.as_slice.ensures in
     to_z-of_z w64 c.greatest_area-2.result both
     ∙ (second ∙ ap (λ (x : ℤ). of_table x s.fill) first ∙ greatest_of_both (pos 0) s.cut s.fill)
