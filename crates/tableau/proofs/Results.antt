@@ -1,14 +1,13 @@
 -- A good exchange keeps the laws of a tableau.
-use Rattle.std.proofs.Common.{◌≡◌, ℕ, zero, suc, ◌+◌, ◌-◌, ◌*◌, ◌≤◌, ◌<◌, ◌⊎◌, inl, inr, arith, ap, sym, ◌∙◌, refl, subst, ⊎_elim, true, false, Bool, cond}
-use Rattle.std.specs.Prelude.{ℤ, pos, negsuc, neg_ℤ, ◌+ℤ◌, ◌-ℤ◌, ◌*ℤ◌, ◌≤ℤ◌, ◌<ℤ◌, ◌≢◌, int_lt, unsigned_abs}
+use Rattle.std.proofs.Common.{◌≡◌, ℕ, ◌*◌, ◌≤◌, ◌<◌, ◌⊎◌, inl, inr, arith, ap, sym, ◌∙◌, refl, subst, ⊎_elim, true, false, Bool}
+use Rattle.std.specs.Prelude.{ℤ, pos, negsuc, neg_ℤ, ◌-ℤ◌, ◌*ℤ◌, ◌≤ℤ◌, ◌<ℤ◌, ◌≢◌, unsigned_abs}
 use Rattle.std.proofs.lemmas.Int.{ints}
-use Rattle.algebra.specs.Sums.{sum_to}
-use Rattle.algebra.proofs.Products.{mults, int_mul_comm, int_mul_assoc, int_neg_mul, int_mul_neg}
-use Rattle.algebra.proofs.Order.{int_lt_or_le, int_mul_nonneg, int_mul_pos, int_mul_le_left, int_lt_of_mul_left, int_le_of_mul_left, int_eq_of_mul_left}
+use Rattle.algebra.proofs.Products.{mults, int_neg_mul}
+use Rattle.algebra.proofs.Order.{int_lt_or_le, int_mul_nonneg, int_mul_pos, int_lt_of_mul_left, int_le_of_mul_left, int_eq_of_mul_left}
 use Rattle.tableau.specs.Programs.{Given, last_column, IsOrdered}
 use Rattle.tableau.specs.Signs.{turned}
 use Rattle.tableau.specs.Tableaux.{Tableau, IsRow, IsColumn, IsNonbasic, basic_entry}
-use Rattle.tableau.specs.Exchanges.{IsOutside, IsEligible, IsGoodAt, IsResultAt, IsDivided, IsRowResult, IsStandingResult, IsToward, IsMovable, reduced, IsGood, IsResult}
+use Rattle.tableau.specs.Exchanges.{IsOutside, IsEligible, IsGoodAt, IsResultAt, IsDivided, IsMovable, reduced}
 use Rattle.tableau.specs.Ends.{turned_by}
 use Rattle.tableau.specs.Laws.{IsCombination, HasRows, HasBasis, HasSigns, HasLaws}
 use Rattle.tableau.specs.declared.bound.Bound.{Bound}
@@ -47,12 +46,12 @@ taken_is : (b : Bound) (high : Bool) (basic p z w : ℤ) → Lowers high (turned
     → turned p z *ℤ w ≡ neg_ℤ (pos (unsigned_abs z) *ℤ turned_by b basic w)
 taken_is b true basic p z w h up down =
     elim (turns b basic) [
-      inl f ↦ ap (λ x. x *ℤ w) (turned_above p z (let e = f p in omega (arith, ints))) ∙ (ap (λ x. x *ℤ w) (size_below z (up refl)) ∙ (int_neg_mul (pos (unsigned_abs z)) w ∙ ap (λ x. neg_ℤ (pos (unsigned_abs z) *ℤ x)) (sym (f w))))
+      | inl f ↦ ap (λ x. x *ℤ w) (turned_above p z (let e = f p in omega (arith, ints))) ∙ (ap (λ x. x *ℤ w) (size_below z (up refl)) ∙ (int_neg_mul (pos (unsigned_abs z)) w ∙ ap (λ x. neg_ℤ (pos (unsigned_abs z) *ℤ x)) (sym (f w))))
       | inr f ↦ ap (λ x. x *ℤ w) (turned_below p z (let e = f p in omega (arith, ints))) ∙ (ap (λ x. x *ℤ w) (neg_size_below z (up refl)) ∙ (flip (pos (unsigned_abs z)) w ∙ ap (λ x. neg_ℤ (pos (unsigned_abs z) *ℤ x)) (sym (f w))))
     ]
 taken_is b false basic p z w h up down =
     elim (turns b basic) [
-      inl f ↦ ap (λ x. x *ℤ w) (turned_below p z (let e = f p in omega (arith, ints))) ∙ (ap (λ x. x *ℤ w) (neg_size_above z (down refl)) ∙ (int_neg_mul (pos (unsigned_abs z)) w ∙ ap (λ x. neg_ℤ (pos (unsigned_abs z) *ℤ x)) (sym (f w))))
+      | inl f ↦ ap (λ x. x *ℤ w) (turned_below p z (let e = f p in omega (arith, ints))) ∙ (ap (λ x. x *ℤ w) (neg_size_above z (down refl)) ∙ (int_neg_mul (pos (unsigned_abs z)) w ∙ ap (λ x. neg_ℤ (pos (unsigned_abs z) *ℤ x)) (sym (f w))))
       | inr f ↦ ap (λ x. x *ℤ w) (turned_above p z (let e = f p in omega (arith, ints))) ∙ (ap (λ x. x *ℤ w) (size_above z (down refl)) ∙ (flip (pos (unsigned_abs z)) w ∙ ap (λ x. neg_ℤ (pos (unsigned_abs z) *ℤ x)) (sym (f w))))
     ]
 
@@ -85,19 +84,19 @@ module _ (t : Tableau) (laws : HasLaws t) (ordered : IsOrdered t.given) (i c : �
   size_positive = let h = pivot_some in omega (arith, ints)
 
   -- a row is as it was, or is reduced and divided
-  abbrev IsSame : ℕ → Type 0
+  abbrev pub IsSame : ℕ → Type 0
   IsSame k = ((k ≡ i) ⊎ (t.entry k c ≡ pos 0)) × ((j : ℕ) → j ≤ last_column g → entry k j ≡ t.entry k j)
 
-  abbrev IsNew : ℕ → Type 0
+  abbrev pub IsNew : ℕ → Type 0
   IsNew k = (k ≢ i) × (t.entry k c ≢ pos 0) × IsDivided (last_column g) (reduced t i c k) (entry k)
 
   pub row_cases : (k : ℕ) → k ≤ g.rows → IsSame k ⊎ IsNew k
   row_cases k within = ⊎_elim
       (λ (e : k ≡ i). inl (inl e, (result.rows k within).same (inl e)))
       (λ (differ : k ≢ i). ⊎_elim
-          (λ (e : t.entry k c ≡ pos 0). inl (inr e, (result.rows k within).same (inr e)))
-          (λ (some : t.entry k c ≢ pos 0). inr (differ, some, (result.rows k within).divided differ some))
-          (zero_or_not (t.entry k c)))
+      (λ (e : t.entry k c ≡ pos 0). inl (inr e, (result.rows k within).same (inr e)))
+      (λ (some : t.entry k c ≢ pos 0). inr (differ, some, (result.rows k within).divided differ some))
+      (zero_or_not (t.entry k c)))
       (same_or_not k i)
 
   i_row : i ≤ g.rows
@@ -107,17 +106,17 @@ module _ (t : Tableau) (laws : HasLaws t) (ordered : IsOrdered t.given) (i c : �
   line_at k within = ⊎_elim
       (λ (h : IsSame k). combination_same g (t.entry k) (entry k) h.1 (laws.rows.combinations k within))
       (λ (h : IsNew k). let d = h.2 in
-          combination_divided g d.divisor (reduced t i c k) (entry k) (λ e. let q = d.positive in omega (arith, ints)) d.each
-              (combination_reduced g (pos (unsigned_abs p)) (turned p (t.entry k c)) (t.entry k) (t.entry i)
-                  (laws.rows.combinations k within) (laws.rows.combinations i i_row)))
+      combination_divided g d.divisor (reduced t i c k) (entry k) (λ e. let q = d.positive in omega (arith, ints)) d.each
+      (combination_reduced g (pos (unsigned_abs p)) (turned p (t.entry k c)) (t.entry k) (t.entry i)
+      (laws.rows.combinations k within) (laws.rows.combinations i i_row)))
       (row_cases k within)
 
   zero_at : (k j : ℕ) → k ≤ g.rows → j ≤ last_column g → t.entry k j ≡ pos 0 → t.entry i j ≡ pos 0 → entry k j ≡ pos 0
   zero_at k j within last e f = ⊎_elim
       (λ (h : IsSame k). h.1 j last ∙ e)
       (λ (h : IsNew k). let d = h.2 in
-          quotient_zero d.divisor (entry k j) (reduced t i c k j) d.positive (d.each j last)
-              (product_zero (pos (unsigned_abs p)) (turned p (t.entry k c)) (t.entry k j) (t.entry i j) e f))
+      quotient_zero d.divisor (entry k j) (reduced t i c k j) d.positive (d.each j last)
+      (product_zero (pos (unsigned_abs p)) (turned p (t.entry k c)) (t.entry k j) (t.entry i j) e f))
       (row_cases k within)
 
   no_scale : (k : ℕ) → IsRow t k → entry k 0 ≡ pos 0
@@ -127,10 +126,10 @@ module _ (t : Tableau) (laws : HasLaws t) (ordered : IsOrdered t.given) (i c : �
   scale = ⊎_elim
       (λ (h : IsSame 0). let e = h.1 0 (omega arith) in let l = laws.rows.scale in omega (arith, ints))
       (λ (h : IsNew 0). let d = h.2 in
-          let e = product_left (pos (unsigned_abs p)) (turned p (t.entry 0 c)) (t.entry 0 0) (t.entry i 0) (laws.rows.no_scale i good.row) in
-          let l = int_mul_pos (pos (unsigned_abs p)) (t.entry 0 0) size_positive (let s = laws.rows.scale in omega (arith, ints)) in
-          let m = quotient_positive d.divisor (entry 0 0) (reduced t i c 0 0) d.positive (d.each 0 (omega arith)) (let P : ℤ → Type 0 = λ x. pos 0 <ℤ x in subst P (sym e) l) in
-          omega (arith, ints))
+      let e = product_left (pos (unsigned_abs p)) (turned p (t.entry 0 c)) (t.entry 0 0) (t.entry i 0) (laws.rows.no_scale i good.row) in
+      let l = int_mul_pos (pos (unsigned_abs p)) (t.entry 0 0) size_positive (let s = laws.rows.scale in omega (arith, ints)) in
+      let m = quotient_positive d.divisor (entry 0 0) (reduced t i c 0 0) d.positive (d.each 0 (omega arith)) (let P : ℤ → Type 0 = λ x. pos 0 <ℤ x in subst P (sym e) l) in
+      omega (arith, ints))
       (row_cases 0 (omega arith))
 
   pub rows_kept : HasRows after
@@ -144,8 +143,8 @@ module _ (t : Tableau) (laws : HasLaws t) (ordered : IsOrdered t.given) (i c : �
   entering_alone k within differ = ⊎_elim
       (λ (h : IsSame k). h.1 c c_column ∙ ⊎_elim (λ (e : k ≡ i). absurd (differ e)) (λ (e : t.entry k c ≡ pos 0). e) h.0)
       (λ (h : IsNew k). let d = h.2 in
-          quotient_zero d.divisor (entry k c) (reduced t i c k c) d.positive (d.each c c_column)
-              (ap (λ x. pos (unsigned_abs p) *ℤ t.entry k c -ℤ x) (turned_times p (t.entry k c)) ∙ omega (arith, ints)))
+      quotient_zero d.divisor (entry k c) (reduced t i c k c) d.positive (d.each c c_column)
+      (ap (λ x. pos (unsigned_abs p) *ℤ t.entry k c -ℤ x) (turned_times p (t.entry k c)) ∙ omega (arith, ints)))
       (row_cases k within)
 
   same_row : (j : ℕ) → j ≤ last_column g → entry i j ≡ t.entry i j
@@ -160,28 +159,28 @@ module _ (t : Tableau) (laws : HasLaws t) (ordered : IsOrdered t.given) (i c : �
   entry_kept : (k : ℕ) → IsRow t k → entry k (basis k) ≢ pos 0
   entry_kept k row = ⊎_elim
       (λ (e : k ≡ i). let P : ℕ → Type 0 = λ x. entry x (basis x) ≢ pos 0 in
-          let Q : ℤ → Type 0 = λ x. x ≢ pos 0 in
-          subst P (sym e) (subst Q (sym (ap (entry i) result.entering ∙ same_row c c_column)) pivot_some))
+      let Q : ℤ → Type 0 = λ x. x ≢ pos 0 in
+      subst P (sym e) (subst Q (sym (ap (entry i) result.entering ∙ same_row c c_column)) pivot_some))
       (λ (differ : k ≢ i).
-          let old : t.basis k ≤ last_column g = (laws.basis.column k row).1 in
-          let Q : ℕ → Type 0 = λ x. entry k x ≢ pos 0 in
-          subst Q (sym (result.basis k row differ)) (⊎_elim
-              (λ (h : IsSame k). λ z. laws.basis.entry k row (sym (h.1 (t.basis k) old) ∙ z))
-              (λ (h : IsNew k). let d = h.2 in
-                  let e = product_left (pos (unsigned_abs p)) (turned p (t.entry k c)) (t.entry k (t.basis k)) (t.entry i (t.basis k))
-                      (laws.basis.alone i k i_row row (λ e. differ (sym e))) in
-                  quotient_some d.divisor (entry k (t.basis k)) (reduced t i c k (t.basis k)) (d.each (t.basis k) old)
-                      (λ z. nonzero_product p (t.entry k (t.basis k)) pivot_some (laws.basis.entry k row) (sym e ∙ z)))
-              (row_cases k row.1)))
+      let old : t.basis k ≤ last_column g = (laws.basis.column k row).1 in
+      let Q : ℕ → Type 0 = λ x. entry k x ≢ pos 0 in
+      subst Q (sym (result.basis k row differ)) (⊎_elim
+      (λ (h : IsSame k). λ z. laws.basis.entry k row (sym (h.1 (t.basis k) old) ∙ z))
+      (λ (h : IsNew k). let d = h.2 in
+      let e = product_left (pos (unsigned_abs p)) (turned p (t.entry k c)) (t.entry k (t.basis k)) (t.entry i (t.basis k))
+      (laws.basis.alone i k i_row row (λ e. differ (sym e))) in
+      quotient_some d.divisor (entry k (t.basis k)) (reduced t i c k (t.basis k)) (d.each (t.basis k) old)
+      (λ z. nonzero_product p (t.entry k (t.basis k)) pivot_some (laws.basis.entry k row) (sym e ∙ z)))
+      (row_cases k row.1)))
       (same_or_not k i)
 
   alone_kept : (l k : ℕ) → l ≤ g.rows → IsRow t k → l ≢ k → entry l (basis k) ≡ pos 0
   alone_kept l k within row differ = ⊎_elim
       (λ (e : k ≡ i). ap (entry l) (ap basis e ∙ result.entering) ∙ entering_alone l within (λ f. differ (f ∙ sym e)))
       (λ (other : k ≢ i).
-          ap (entry l) (result.basis k row other)
-          ∙ zero_at l (t.basis k) within (laws.basis.column k row).1 (laws.basis.alone l k within row differ)
-              (laws.basis.alone i k i_row row (λ e. other (sym e))))
+      ap (entry l) (result.basis k row other)
+      ∙ zero_at l (t.basis k) within (laws.basis.column k row).1 (laws.basis.alone l k within row differ)
+      (laws.basis.alone i k i_row row (λ e. other (sym e))))
       (same_or_not k i)
 
   pub basis_kept : HasBasis after
@@ -191,9 +190,9 @@ module _ (t : Tableau) (laws : HasLaws t) (ordered : IsOrdered t.given) (i c : �
   cost_at_high : t.at_high c ≡ true → t.entry 0 c ≤ℤ pos 0
   cost_at_high high = ⊎_elim
       (λ (l : c ≤ g.columns). ⊎_elim
-          (λ (above : pos 0 <ℤ t.entry 0 c). let e = laws.signs.above c good.eligible.column.0 l above in absurd (cc))
-          (λ (s : t.entry 0 c ≤ℤ pos 0). s)
-          (int_lt_or_le (pos 0) (t.entry 0 c)))
+      (λ (above : pos 0 <ℤ t.entry 0 c). let e = laws.signs.above c good.eligible.column.0 l above in absurd (cc))
+      (λ (s : t.entry 0 c ≤ℤ pos 0). s)
+      (int_lt_or_le (pos 0) (t.entry 0 c)))
       (λ (l : g.columns < c). let e = laws.signs.slacks_low c l c_column in absurd (cc))
       (cases_le c g.columns)
     where
@@ -203,9 +202,9 @@ module _ (t : Tableau) (laws : HasLaws t) (ordered : IsOrdered t.given) (i c : �
   cost_at_low : t.at_high c ≡ false → pos 0 ≤ℤ t.entry 0 c
   cost_at_low low = ⊎_elim
       (λ (l : c ≤ g.columns). ⊎_elim
-          (λ (below : t.entry 0 c <ℤ pos 0). let e = laws.signs.below c good.eligible.column.0 l below in absurd (cc))
-          (λ (s : pos 0 ≤ℤ t.entry 0 c). s)
-          (int_lt_or_le (t.entry 0 c) (pos 0)))
+      (λ (below : t.entry 0 c <ℤ pos 0). let e = laws.signs.below c good.eligible.column.0 l below in absurd (cc))
+      (λ (s : pos 0 ≤ℤ t.entry 0 c). s)
+      (int_lt_or_le (t.entry 0 c) (pos 0)))
       (λ (l : g.columns < c). laws.signs.slacks c l c_column (no_upper c l c_column good.eligible.movable))
       (cases_le c g.columns)
     where
@@ -233,9 +232,9 @@ module _ (t : Tableau) (laws : HasLaws t) (ordered : IsOrdered t.given) (i c : �
   slack_kept j low last no_high = ⊎_elim
       (λ (h : IsSame 0). let e = h.1 j last in let o = own in omega (arith, ints))
       (λ (h : IsNew 0). let d = h.2 in
-          let e = taken_is b (t.at_high c) (basic_entry t i) p (t.entry 0 c) (t.entry i j) pivot_lowers cost_at_high cost_at_low in
-          quotient_nonneg d.divisor (entry 0 j) (reduced t i c 0 j) d.positive (d.each j last)
-              (let P : ℤ → Type 0 = λ x. pos 0 ≤ℤ (pos (unsigned_abs p) *ℤ t.entry 0 j -ℤ x) in subst P (sym e) lowered))
+      let e = taken_is b (t.at_high c) (basic_entry t i) p (t.entry 0 c) (t.entry i j) pivot_lowers cost_at_high cost_at_low in
+      quotient_nonneg d.divisor (entry 0 j) (reduced t i c 0 j) d.positive (d.each j last)
+      (let P : ℤ → Type 0 = λ x. pos 0 ≤ℤ (pos (unsigned_abs p) *ℤ t.entry 0 j -ℤ x) in subst P (sym e) lowered))
       (row_cases 0 (omega arith))
     where
       own : pos 0 ≤ℤ t.entry 0 j
@@ -255,26 +254,26 @@ module _ (t : Tableau) (laws : HasLaws t) (ordered : IsOrdered t.given) (i c : �
       lowered : pos 0 ≤ℤ (pos (unsigned_abs p) *ℤ t.entry 0 j -ℤ neg_ℤ (pos (unsigned_abs (t.entry 0 c)) *ℤ turned_by b (basic_entry t i) (t.entry i j)))
       lowered = ⊎_elim
           (λ (l : turned_by b (basic_entry t i) (t.entry i j) <ℤ pos 0).
-              let stands = laws.signs.slacks_low j low last in
-              let L : Bool → Type 0 = λ x. Lowers x (turned_by b (basic_entry t i) (t.entry i j)) in
-              let lowers = subst L (sym stands) l in
-              let some = lowers_some b (t.at_high j) (t.entry i j) (basic_entry t i) lowers in
-              let differ : t.basis i ≢ j = λ e. let q = breaks b good.outside e in omega (arith, ints) in
-              let m : 1 ≤ j = omega arith in
-              let eligible : IsEligible t i b j = record {
-                column = (m, last);
-                nonbasic = other_nonbasic j differ some;
-                movable = λ e. absurd (cc);
-                toward = lowers_toward b (t.at_high j) (t.entry i j) (basic_entry t i) (laws.basis.entry i good.row) lowers;
-              } in
-              let r = good.least j eligible in
-              ratio_is (t.entry 0 j) (turned_by b (basic_entry t i) (t.entry i j)) (t.entry 0 c) p own l
-                  (let R : ℕ → Type 0 = λ x. unsigned_abs (t.entry 0 c) * x ≤ unsigned_abs (t.entry 0 j) * unsigned_abs p in
-                   subst R (sym (turned_magnitude b (basic_entry t i) (t.entry i j))) r))
+          let stands = laws.signs.slacks_low j low last in
+          let L : Bool → Type 0 = λ x. Lowers x (turned_by b (basic_entry t i) (t.entry i j)) in
+          let lowers = subst L (sym stands) l in
+          let some = lowers_some b (t.at_high j) (t.entry i j) (basic_entry t i) lowers in
+          let differ : t.basis i ≢ j = λ e. let q = breaks b good.outside e in omega (arith, ints) in
+          let m : 1 ≤ j = omega arith in
+          let eligible : IsEligible t i b j = record {
+            column = (m, last);
+            nonbasic = other_nonbasic j differ some;
+            movable = λ e. absurd (cc);
+            toward = lowers_toward b (t.at_high j) (t.entry i j) (basic_entry t i) (laws.basis.entry i good.row) lowers;
+          } in
+          let r = good.least j eligible in
+          ratio_is (t.entry 0 j) (turned_by b (basic_entry t i) (t.entry i j)) (t.entry 0 c) p own l
+          (let R : ℕ → Type 0 = λ x. unsigned_abs (t.entry 0 c) * x ≤ unsigned_abs (t.entry 0 j) * unsigned_abs p in
+          subst R (sym (turned_magnitude b (basic_entry t i) (t.entry i j))) r))
           (λ (l : pos 0 ≤ℤ turned_by b (basic_entry t i) (t.entry i j)).
-              let x = int_mul_nonneg (pos (unsigned_abs p)) (t.entry 0 j) (omega (arith, ints)) own in
-              let y = int_mul_nonneg (pos (unsigned_abs (t.entry 0 c))) (turned_by b (basic_entry t i) (t.entry i j)) (omega (arith, ints)) l in
-              omega (arith, ints))
+          let x = int_mul_nonneg (pos (unsigned_abs p)) (t.entry 0 j) (omega (arith, ints)) own in
+          let y = int_mul_nonneg (pos (unsigned_abs (t.entry 0 c))) (turned_by b (basic_entry t i) (t.entry i j)) (omega (arith, ints)) l in
+          omega (arith, ints))
           (int_lt_or_le (turned_by b (basic_entry t i) (t.entry i j)) (pos 0))
 
   pub signs_kept : HasSigns after

@@ -1,9 +1,9 @@
 -- Turned numbers and the direction in which an eligible column moves its row.
-use Rattle.std.proofs.Common.{◌≡◌, ℕ, ◌+◌, ◌*◌, ◌≤◌, ◌<◌, ◌⊎◌, inl, inr, arith, ap, sym, ◌∙◌, refl, subst, ⊎_elim, true, false, Bool, cond}
-use Rattle.std.specs.Prelude.{ℤ, pos, negsuc, neg_ℤ, ◌+ℤ◌, ◌-ℤ◌, ◌*ℤ◌, ◌≤ℤ◌, ◌<ℤ◌, ◌≢◌, int_lt, unsigned_abs}
+use Rattle.std.proofs.Common.{◌≡◌, ◌⊎◌, inl, inr, arith, ap, sym, ◌∙◌, ⊎_elim, true, false, Bool, cond}
+use Rattle.std.specs.Prelude.{ℤ, pos, neg_ℤ, ◌*ℤ◌, ◌≤ℤ◌, ◌<ℤ◌, ◌≢◌, int_lt, unsigned_abs}
 use Rattle.std.proofs.lemmas.Int.{ints}
-use Rattle.algebra.proofs.Products.{mults, int_mul_comm, int_neg_mul, int_mul_neg}
-use Rattle.algebra.proofs.Order.{int_lt_or_le, int_mul_nonneg, int_mul_pos, int_mul_le_left, int_lt_of_mul_left, int_le_of_mul_left}
+use Rattle.algebra.proofs.Products.{int_mul_comm, int_neg_mul}
+use Rattle.algebra.proofs.Order.{int_lt_or_le}
 use Rattle.tableau.specs.Signs.{IsSameSign, IsOppositeSign, turned}
 use Rattle.tableau.specs.Exchanges.{IsToward}
 use Rattle.tableau.specs.Ends.{turned_by}
@@ -55,7 +55,7 @@ neg_size_below z h = omega (arith, ints)
 -- z turned by p, times p, is z times the magnitude of p
 pub turned_times : (p z : ℤ) → turned p z *ℤ p ≡ pos (unsigned_abs p) *ℤ z
 turned_times p z = elim (turned_cases p z) [
-  inl h ↦ ap (λ x. x *ℤ p) h.1 ∙ (int_mul_comm z p ∙ ap (λ x. x *ℤ z) (size_above p h.0))
+  | inl h ↦ ap (λ x. x *ℤ p) h.1 ∙ (int_mul_comm z p ∙ ap (λ x. x *ℤ z) (size_above p h.0))
   | inr h ↦ ap (λ x. x *ℤ p) h.1 ∙ (int_neg_mul z p ∙ (ap neg_ℤ (int_mul_comm z p) ∙ (sym (int_neg_mul p z) ∙ ap (λ x. x *ℤ z) (neg_size_below p (let l = h.0 in omega (arith, ints))))))
 ]
 
@@ -81,13 +81,13 @@ turned_opposite p z (inr h) = let e = turned_below p z h.0 in let l = h.1 in ome
 
 pub same_turned : (p z : ℤ) → p ≢ pos 0 → pos 0 <ℤ turned p z → IsSameSign p z
 same_turned p z some h = elim (turned_cases p z) [
-  inl q ↦ let l = q.0 in let e = q.1 in inl (omega (arith, ints), omega (arith, ints))
+  | inl q ↦ let l = q.0 in let e = q.1 in inl (omega (arith, ints), omega (arith, ints))
   | inr q ↦ let l = q.0 in let e = q.1 in inr (omega (arith, ints), omega (arith, ints))
 ]
 
 pub opposite_turned : (p z : ℤ) → p ≢ pos 0 → turned p z <ℤ pos 0 → IsOppositeSign p z
 opposite_turned p z some h = elim (turned_cases p z) [
-  inl q ↦ let l = q.0 in let e = q.1 in inl (omega (arith, ints), omega (arith, ints))
+  | inl q ↦ let l = q.0 in let e = q.1 in inl (omega (arith, ints), omega (arith, ints))
   | inr q ↦ let l = q.0 in let e = q.1 in inr (omega (arith, ints), omega (arith, ints))
 ]
 

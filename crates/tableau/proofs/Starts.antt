@@ -1,11 +1,11 @@
 -- The start of a tableau has the laws.
-use Rattle.std.proofs.Common.{◌≡◌, ℕ, zero, suc, ◌+◌, ◌-◌, ◌≤◌, ◌<◌, ◌⊎◌, arith, ap, sym, ◌∙◌, refl, subst, ⊎_elim, true, false, Bool}
-use Rattle.std.specs.Prelude.{ℤ, pos, negsuc, neg_ℤ, ◌+ℤ◌, ◌-ℤ◌, ◌*ℤ◌, ◌≤ℤ◌, ◌<ℤ◌, ◌≢◌, int_lt}
+use Rattle.std.proofs.Common.{◌≡◌, ℕ, ◌+◌, ◌-◌, ◌≤◌, ◌<◌, ◌⊎◌, arith, ap, sym, ◌∙◌, subst, ⊎_elim, true, false}
+use Rattle.std.specs.Prelude.{ℤ, pos, ◌*ℤ◌, ◌<ℤ◌, ◌≢◌, int_lt}
 use Rattle.std.proofs.lemmas.Int.{ints}
 use Rattle.algebra.specs.Sums.{sum_to}
-use Rattle.algebra.proofs.SumsLemmas.{sum_to_only, sum_to_zero, sum_to_ext}
-use Rattle.tableau.specs.Programs.{Given, last_column}
-use Rattle.tableau.specs.Tableaux.{Tableau, IsStart, IsRow, IsColumn, basic_entry}
+use Rattle.algebra.proofs.SumsLemmas.{sum_to_only, sum_to_zero}
+use Rattle.tableau.specs.Programs.{Given}
+use Rattle.tableau.specs.Tableaux.{Tableau, IsStart, IsRow}
 use Rattle.tableau.specs.Laws.{IsCombination, HasRows, HasBasis, HasSigns, HasLaws}
 
 -- two numbers are equal or not
@@ -23,8 +23,8 @@ module _ (t : Tableau) (h : IsStart t.given t) where
   cost_row : IsCombination g (t.entry 0)
   cost_row j low high =
       let s : sum_to (λ i. t.entry 0 (g.columns + i) *ℤ g.coefficient i j) g.rows ≡ pos 0 =
-          sum_to_zero (λ i. t.entry 0 (g.columns + i) *ℤ g.coefficient i j) g.rows
-              (λ i a b. ap (λ x. x *ℤ g.coefficient i j) (h.no_cost i a b) ∙ omega (arith, ints)) in
+      sum_to_zero (λ i. t.entry 0 (g.columns + i) *ℤ g.coefficient i j) g.rows
+      (λ i a b. ap (λ x. x *ℤ g.coefficient i j) (h.no_cost i a b) ∙ omega (arith, ints)) in
       let one = ap (λ x. x *ℤ g.cost j) h.scale in
       let c = h.costs j low high in
       omega (arith, ints)
@@ -32,8 +32,8 @@ module _ (t : Tableau) (h : IsStart t.given t) where
   other_row : (i : ℕ) → 1 ≤ i → i ≤ g.rows → IsCombination g (t.entry i)
   other_row i first last j low high =
       let s : sum_to (λ k. t.entry i (g.columns + k) *ℤ g.coefficient k j) g.rows ≡ t.entry i (g.columns + i) *ℤ g.coefficient i j =
-          sum_to_only (λ k. t.entry i (g.columns + k) *ℤ g.coefficient k j) i g.rows first last
-              (λ k a b differ. ap (λ x. x *ℤ g.coefficient k j) (h.other_slack i k first last a b (λ e. differ (sym e))) ∙ omega (arith, ints)) in
+      sum_to_only (λ k. t.entry i (g.columns + k) *ℤ g.coefficient k j) i g.rows first last
+      (λ k a b differ. ap (λ x. x *ℤ g.coefficient k j) (h.other_slack i k first last a b (λ e. differ (sym e))) ∙ omega (arith, ints)) in
       let own = ap (λ x. x *ℤ g.coefficient i j) (h.slack i first last) in
       let none = ap (λ x. x *ℤ g.cost j) (h.no_scale i first last) in
       let c = h.coefficients i j first last low high in
@@ -42,9 +42,9 @@ module _ (t : Tableau) (h : IsStart t.given t) where
   pub start_rows : HasRows t
   start_rows = record {
     combinations = λ i within. ⊎_elim
-      (λ (e : i ≡ 0). let P : ℕ → Type 0 = λ k. IsCombination g (t.entry k) in subst P (sym e) cost_row)
-      (λ (e : i ≢ 0). other_row i (omega arith) within)
-      (same_or_not i 0);
+        (λ (e : i ≡ 0). let P : ℕ → Type 0 = λ k. IsCombination g (t.entry k) in subst P (sym e) cost_row)
+        (λ (e : i ≢ 0). other_row i (omega arith) within)
+        (same_or_not i 0);
     no_scale = λ i row. h.no_scale i row.0 row.1;
     scale = let e = h.scale in omega (arith, ints);
   }

@@ -1,9 +1,9 @@
 -- Where a tableau ends: optimal, with its point and the least common denominator of its basic values, or empty, with its ray.
-use Rattle.std.specs.Prelude.{◌≡◌, ℕ, ◌+◌, ◌≤◌, ◌<◌, ℤ, pos, neg_ℤ, ◌+ℤ◌, ◌-ℤ◌, ◌*ℤ◌, ◌≤ℤ◌, ◌<ℤ◌}
+use Rattle.std.specs.Prelude.{◌≡◌, ℕ, ◌+◌, ◌≤◌, ℤ, pos, neg_ℤ, ◌+ℤ◌, ◌-ℤ◌, ◌*ℤ◌, ◌<ℤ◌}
 use Rattle.std.specs.Int.{int_min}
 use Rattle.algebra.specs.Sums.{sum_to}
 use Rattle.numbers.specs.Divisors.{Divides}
-use Rattle.tableau.specs.Programs.{Given, last_column}
+use Rattle.tableau.specs.Programs.{Given}
 use Rattle.tableau.specs.Signs.{turned}
 use Rattle.tableau.specs.Tableaux.{Tableau, IsRow, IsColumn, IsNonbasic, basic_entry, standing, rest}
 use Rattle.tableau.specs.Exchanges.{IsOutside, IsEligible}

@@ -1,6 +1,6 @@
 -- Which exchanges are good, and what they leave. A row is outside where its basic value breaks a bound; a column is
 -- eligible for it where its move into its range moves the basic value towards that bound.
-use Rattle.std.specs.Prelude.{◌≡◌, ◌≢◌, ℕ, ◌+◌, ◌*◌, ◌≤◌, ◌<◌, Bool, true, false, cond, ◌⊎◌, ℤ, pos, ◌+ℤ◌, ◌-ℤ◌, ◌*ℤ◌, ◌<ℤ◌, unsigned_abs}
+use Rattle.std.specs.Prelude.{◌≡◌, ◌≢◌, ℕ, ◌*◌, ◌≤◌, ◌<◌, Bool, true, false, cond, ◌⊎◌, ℤ, pos, ◌-ℤ◌, ◌*ℤ◌, ◌<ℤ◌, unsigned_abs}
 use Rattle.numbers.specs.Divisors.{Divides}
 use Rattle.tableau.specs.Programs.{Given, last_column}
 use Rattle.tableau.specs.Signs.{IsSameSign, IsOppositeSign, turned}

@@ -9,7 +9,7 @@ use Rattle.tableau.specs.Tableaux.{Tableau, IsRow, IsColumn, basic_entry}
 abbrev pub IsCombination : Given → (ℕ → ℤ) → Type 0
 IsCombination g line =
     (j : ℕ) → 1 ≤ j → j ≤ g.columns
-      → line j ≡ line 0 *ℤ g.cost j -ℤ sum_to (λ i. line (g.columns + i) *ℤ g.coefficient i j) g.rows
+    → line j ≡ line 0 *ℤ g.cost j -ℤ sum_to (λ i. line (g.columns + i) *ℤ g.coefficient i j) g.rows
 
 -- x makes every row 0
 abbrev pub MakesRowsZero : Tableau → (ℕ → ℤ) → Type 0

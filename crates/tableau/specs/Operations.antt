@@ -1,11 +1,10 @@
 -- The exact values that an operation names on a tableau.
-use Rattle.std.specs.Prelude.{◌≡◌, ◌≢◌, ℕ, ◌+◌, ◌*◌, ◌≤◌, ◌<◌, ◌⊎◌, true, ℤ, pos, ◌*ℤ◌, unsigned_abs}
+use Rattle.std.specs.Prelude.{◌≡◌, ◌≢◌, ℕ, ◌*◌, ◌≤◌, ◌<◌, ◌⊎◌, true, ℤ, pos, ◌*ℤ◌, unsigned_abs}
 use Rattle.tableau.specs.Programs.{Given, last_column}
 use Rattle.tableau.specs.Tableaux.{Tableau, IsRow, IsColumn, basic_entry, summand, sum_up_to}
 use Rattle.tableau.specs.Exchanges.{IsOutside, IsEligible, IsGood, kept_product, taken_product, reduced}
 use Rattle.tableau.specs.Ends.{IsOptimal, IsLeastDenominator, IsPoint}
 use Rattle.tableau.specs.declared.bound.Bound.{Bound}
-use Rattle.tableau.specs.declared.exchange.Exchange.{Exchange}
 use Rattle.tableau.specs.declared.op.Op.{Op}
 use Rattle.tableau.specs.declared.op.Op.TheVariants.{Cell, Value, Ratio, Join}
 
@@ -23,8 +22,8 @@ pub record IsSumValue (t : Tableau) (i j : ℕ) (z : ℤ) : Type 0 where
   pub row : IsRow t i
   pub column : IsColumn t j
   pub value :
-    ((z ≡ summand t i j) ⊎ (z ≡ sum_up_to t i j))
-    ⊎ ((t.basis i ≡ j)
+      ((z ≡ summand t i j) ⊎ (z ≡ sum_up_to t i j))
+      ⊎ ((t.basis i ≡ j)
       × ((z ≡ basic_entry t i *ℤ t.given.low j) ⊎ ((t.given.has_high j ≡ true) × (z ≡ basic_entry t i *ℤ t.given.high j))))
 
 -- one of the two cross products that compare the ratios of two eligible columns of row i
@@ -35,16 +34,16 @@ pub record IsRatioValue (t : Tableau) (i j k : ℕ) (z : ℤ) : Type 0 where
   pub column : IsEligible t i broken j
   pub other : IsEligible t i broken k
   pub value :
-    (unsigned_abs z ≡ unsigned_abs (t.entry 0 j) * unsigned_abs (t.entry i k))
-    ⊎ (unsigned_abs z ≡ unsigned_abs (t.entry 0 k) * unsigned_abs (t.entry i j))
+      (unsigned_abs z ≡ unsigned_abs (t.entry 0 j) * unsigned_abs (t.entry i k))
+      ⊎ (unsigned_abs z ≡ unsigned_abs (t.entry 0 k) * unsigned_abs (t.entry i j))
 
 -- the least common denominator of the basic values of rows 1 to k, or a coordinate of the point over that of all rows
 pub record IsJoinValue (t : Tableau) (k : ℕ) (z : ℤ) : Type 0 where
   pub optimal : IsOptimal t
   pub row : k ≤ t.given.rows
   pub value :
-    IsLeastDenominator t k z
-    ⊎ ((k ≡ t.given.rows)
+      IsLeastDenominator t k z
+      ⊎ ((k ≡ t.given.rows)
       × ((den : ℤ) × (x : ℕ → ℤ) × (j : ℕ) × IsLeastDenominator t k den × IsPoint t den x × IsColumn t j × (x j ≡ z)))
 
 -- z is an exact value of the operation on the tableau

@@ -1,6 +1,6 @@
 -- A tableau: the entries of its rows, the basic column of each row, and where the other columns stand.
 -- Row 0 is the cost row, and column 0 of row 0 its scale.
-use Rattle.std.specs.Prelude.{◌≡◌, ◌≢◌, ℕ, ◌+◌, ◌≤◌, ◌<◌, ◌==◌, Bool, true, false, cond, if◌then◌else◌, ℤ, pos, negsuc, int_lt, ◌+ℤ◌, ◌*ℤ◌, ◌≤ℤ◌, ◌<ℤ◌}
+use Rattle.std.specs.Prelude.{◌≡◌, ◌≢◌, ℕ, ◌+◌, ◌≤◌, ◌<◌, ◌==◌, Bool, false, cond, if◌then◌else◌, ℤ, pos, negsuc, int_lt, ◌+ℤ◌, ◌*ℤ◌}
 use Rattle.algebra.specs.Sums.{sum_to}
 use Rattle.tableau.specs.Programs.{Given, last_column}
 
