@@ -2,4 +2,6 @@ pub mod Products
 pub mod Order
 pub mod Magnitudes
 pub mod SumsLemmas
+pub mod TotalsLemmas
+pub mod NumberedLemmas
 mod Examples

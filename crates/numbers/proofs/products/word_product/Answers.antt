@@ -2,7 +2,7 @@ use Rattle.std.specs.Prelude.{◌*ℤ◌, FitsSigned}
 use Rattle.std.specs.Int.{w128}
 use Rattle.std.proofs.lemmas.Int.{to_z-of_z}
 use Rattle.numbers.proofs.WholeLemmas.{word_product_below, word_product_fits}
-use Rattle.numbers.proofs.w128.word_product.Goals as goal
+use Rattle.numbers.proofs.products.word_product.Goals as goal
 
 pub returns-clause-value : goal.returns-clause-value
 returns-clause-value c =

@@ -1,0 +1,4 @@
+pub mod Programs
+pub mod Points
+pub mod Weights
+pub mod Limits
