@@ -1,0 +1,1 @@
+-- How great the numbers of a value can be, by the weight of the program.

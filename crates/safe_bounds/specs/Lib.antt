@@ -1,0 +1,4 @@
+pub mod Values
+pub mod Bounds
+pub mod Narrowing
+pub mod Sparse
