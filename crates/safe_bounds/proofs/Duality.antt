@@ -1,6 +1,6 @@
 -- Weak duality: a value over its scale bounds the cost of every point.
 use Rattle.std.proofs.Common.{◌≡◌, ℕ, zero, suc, ◌<◌, ◌≤◌, List, [], ◌∷◌, length, arith, ap, sym, ◌∙◌, refl, subst}
-use Rattle.std.specs.Prelude.{ℤ, pos, ◌+ℤ◌, ◌-ℤ◌, ◌*ℤ◌, ◌≤ℤ◌}
+use Rattle.std.specs.Prelude.{ℤ, pos, ◌+ℤ◌, ◌-ℤ◌, ◌*ℤ◌, ◌≤ℤ◌, ◌<ℤ◌}
 use Rattle.std.specs.Int.{int_min}
 use Rattle.std.specs.List.{All}
 use Rattle.std.proofs.lemmas.Int.{ints}
@@ -10,7 +10,7 @@ use Rattle.term_store.specs.declared.side.Side.TheVariants.{Equal, AtLeast}
 use Rattle.algebra.specs.Sums.{sum_to}
 use Rattle.algebra.specs.Numbered.{numbered, IsNumber}
 use Rattle.algebra.proofs.Products.{int_mul_add, int_add_mul, int_sub_mul, int_mul_assoc, int_mul_comm, int_mul_left_comm}
-use Rattle.algebra.proofs.Order.{int_min_le_mul, int_min_mul, int_mul_le_left}
+use Rattle.algebra.proofs.Order.{int_min_le_mul, int_min_mul, int_mul_le_left, int_mul_pos}
 use Rattle.algebra.proofs.SumsLemmas.{sum_to_zero, sum_to_add, sum_to_sub, sum_to_ext, sum_to_le, sum_to_mul_left, sum_to_mul_right}
 use Rattle.programs.specs.Programs.{Program, ProgramRow, row_count, column_count, row_at, empty_row, bounds_at, cost_at, coefficient}
 use Rattle.programs.specs.Points.{numerator_at, value_at, Satisfies, MeetsRow, IsPoint, cost_share, cost_of_point}
@@ -89,30 +89,40 @@ column_bound r low high den x d p q =
 pub bounds_costs : (program : Program) (scale : ℤ) (mults : List ℤ) → HasRightSigns program mults → BoundsCosts program scale (value_of program scale mults)
 bounds_costs program scale mults signs = record {
   each = λ den point one is_point.
-    let n = column_count program in
-    let x = numerator_at point in
-    let size : length point ≡ n = is_point.in_bounds.columns in
-    let d : pos 0 ≤ℤ den = omega (arith, ints) in
-    let rows = rights_bound den point program.rows mults is_point.meets signs.each in
-    let pulls = ap (sum_to (λ j. combined j program.rows mults *ℤ x j)) (sym size) ∙ combined_by_columns point program.rows mults in
-    let reduced = sum_to_le
-    (λ j. column_value program scale mults j *ℤ den)
-    (λ j. reduced_cost program scale mults j *ℤ x j)
-    n
-    (λ j low high.
-    let b = is_point.in_bounds.each j (record { from_one = low; at_most = high }) in
-    column_bound (reduced_cost program scale mults j) (bounds_at program j).0 (bounds_at program j).1 den (x j) d b.at_least b.at_most) in
-    let columns = sum_to_mul_right den (column_value program scale mults) n in
-    let apart = sum_to_ext
-    (λ j. reduced_cost program scale mults j *ℤ x j)
-    (λ j. scale *ℤ cost_share program point j -ℤ combined j program.rows mults *ℤ x j)
-    n
-    (λ j low high.
-    int_sub_mul (scale *ℤ cost_at program j) (combined j program.rows mults) (x j)
-    ∙ ap (λ v. v -ℤ combined j program.rows mults *ℤ x j) (int_mul_assoc scale (cost_at program j) (x j))) in
-    let parts = sum_to_sub (λ j. scale *ℤ cost_share program point j) (λ j. combined j program.rows mults *ℤ x j) n in
-    let costs = sum_to_mul_left scale (cost_share program point) n in
-    let whole = int_mul_add den (rights_value program.rows mults) (sum_to (column_value program scale mults) n) in
-    let turned = int_mul_comm den (sum_to (column_value program scale mults) n) in
+      let n = column_count program in
+      let x = numerator_at point in
+      let size : length point ≡ n = is_point.in_bounds.columns in
+      let d : pos 0 ≤ℤ den = omega (arith, ints) in
+      let rows = rights_bound den point program.rows mults is_point.meets signs.each in
+      let pulls = ap (sum_to (λ j. combined j program.rows mults *ℤ x j)) (sym size) ∙ combined_by_columns point program.rows mults in
+      let reduced = sum_to_le
+      (λ j. column_value program scale mults j *ℤ den)
+      (λ j. reduced_cost program scale mults j *ℤ x j)
+      n
+      (λ j low high.
+      let b = is_point.in_bounds.each j (record { from_one = low; at_most = high }) in
+      column_bound (reduced_cost program scale mults j) (bounds_at program j).0 (bounds_at program j).1 den (x j) d b.at_least b.at_most) in
+      let columns = sum_to_mul_right den (column_value program scale mults) n in
+      let apart = sum_to_ext
+      (λ j. reduced_cost program scale mults j *ℤ x j)
+      (λ j. scale *ℤ cost_share program point j -ℤ combined j program.rows mults *ℤ x j)
+      n
+      (λ j low high.
+      int_sub_mul (scale *ℤ cost_at program j) (combined j program.rows mults) (x j)
+      ∙ ap (λ v. v -ℤ combined j program.rows mults *ℤ x j) (int_mul_assoc scale (cost_at program j) (x j))) in
+      let parts = sum_to_sub (λ j. scale *ℤ cost_share program point j) (λ j. combined j program.rows mults *ℤ x j) n in
+      let costs = sum_to_mul_left scale (cost_share program point) n in
+      let whole = int_mul_add den (rights_value program.rows mults) (sum_to (column_value program scale mults) n) in
+      let turned = int_mul_comm den (sum_to (column_value program scale mults) n) in
+      omega (arith, ints);
+}
+
+-- a dead value above 0 leaves no point
+pub dead_value : (program : Program) (scale value : ℤ) → BoundsCosts program scale value → scale ≡ pos 0 → pos 0 <ℤ value → HasNoPoint program
+dead_value program scale value bound dead above = record {
+  none = λ den point one is_point.
+    let b = bound.each den point one is_point in
+    let none = ap (λ s. s *ℤ cost_of_point program point) dead in
+    let some = int_mul_pos den value (omega (arith, ints)) above in
     omega (arith, ints);
 }

@@ -1,2 +1,5 @@
 pub mod Duality
 pub mod ValueWidths
+pub mod DrawnLemmas
+pub mod StepWidths
+pub mod ColumnsLemmas

@@ -2,3 +2,4 @@ pub mod Values
 pub mod Bounds
 pub mod Narrowing
 pub mod Sparse
+pub mod inside
