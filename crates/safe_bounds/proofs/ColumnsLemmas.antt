@@ -1,5 +1,5 @@
 -- The columns' part of a value, column by column.
-use Rattle.std.proofs.Common.{◌≡◌, ℕ, ◌+◌, ◌*◌, ◌^◌, ◌<◌, ◌≤◌, List, length, get_or, arith, ap, sym, ◌∙◌, refl}
+use Rattle.std.proofs.Common.{◌≡◌, ℕ, ◌+◌, ◌*◌, ◌^◌, ◌<◌, ◌≤◌, List, get_or, arith, ap, sym, ◌∙◌, refl}
 use Rattle.std.specs.Prelude.{ℤ, pos, ◌+ℤ◌, ◌-ℤ◌, ◌*ℤ◌, FitsSigned, unsigned_abs}
 use Rattle.std.specs.Int.{int_min, w128}
 use Rattle.std.proofs.Math.Nat.{mul-le-mul_left}
@@ -10,7 +10,7 @@ use Rattle.algebra.proofs.SumsLemmas.{sum_to_step}
 use Rattle.algebra.proofs.Magnitudes.{fits_w128}
 use Rattle.programs.specs.Programs.{Program, column_count, bounds_at, cost_at}
 use Rattle.programs.specs.Weights.{reach, weight}
-use Rattle.safe_bounds.specs.Values.{rights_value, combined, reduced_cost, column_value, value_of}
+use Rattle.safe_bounds.specs.Values.{rights_value, combined, reduced_cost, column_value}
 use Rattle.safe_bounds.specs.inside.Drawn.{AreAtMost}
 use Rattle.safe_bounds.proofs.DrawnLemmas.{drawn_here}
 use Rattle.safe_bounds.proofs.ValueWidths.{part_width, reduced_reach}

@@ -1,17 +1,15 @@
 -- What the multipliers have drawn at each column, term by term and row by row.
-use Rattle.std.proofs.Common.{◌≡◌, ℕ, zero, suc, ◌+◌, ◌-◌, ◌*◌, ◌^◌, ◌<◌, ◌≤◌, List, [], ◌∷◌, ◌++◌, length, get_or, set, take, drop, arith, ap, sym, ◌∙◌, refl, ⊎_elim, subst}
+use Rattle.std.proofs.Common.{◌≡◌, ℕ, zero, suc, ◌+◌, ◌-◌, ◌<◌, ◌≤◌, List, [], ◌∷◌, ◌++◌, length, get_or, set, drop, arith, ap, sym, ◌∙◌, refl, ⊎_elim, subst}
 use Rattle.std.specs.Prelude.{ℤ, pos, ◌+ℤ◌, ◌*ℤ◌, unsigned_abs}
-use Rattle.std.specs.List.{All}
-use Rattle.std.proofs.Math.Nat.{mul-add}
 use Rattle.std.proofs.lemmas.Int.{ints}
 use Rattle.std.proofs.lemmas.Bool.{cases_eq}
-use Rattle.std.proofs.lemmas.List.{length-set, get_or-set_same, get_or-set_other, drop_more, drop_all}
+use Rattle.std.proofs.lemmas.List.{length-set, get_or-set_same, get_or-set_other, drop_more}
 use Rattle.std.proofs.lemmas.List.Elements.{All-set, All-weaker}
 use Rattle.term_store.specs.declared.term.Term.{Term}
 use Rattle.algebra.specs.Numbered.{numbered, IsNumber}
 use Rattle.algebra.proofs.NumberedLemmas.{numbered_at}
 use Rattle.algebra.proofs.Products.{int_mul_add, int_mul_zero}
-use Rattle.programs.specs.Programs.{ProgramRow, coefficient, entry, empty_row}
+use Rattle.programs.specs.Programs.{ProgramRow, coefficient, empty_row}
 use Rattle.programs.proofs.EntriesLemmas.{entry_here, entry_elsewhere}
 use Rattle.safe_bounds.specs.Values.{combined, rights_value}
 use Rattle.safe_bounds.specs.inside.Drawn.{AreAtMost, HaveDrawn}
@@ -31,11 +29,11 @@ pub more_drawn : (xs ys zs : List ℤ) (y : ℤ) (ts us : List (Term ℤ)) → H
 more_drawn xs ys zs y ts us p q = record {
   columns = q.columns ∙ p.columns;
   each = λ j n.
-    let n' : IsNumber j (length ys) = record { from_one = n.from_one; at_most = omega (arith, p.columns, n.at_most) } in
-    let first = p.each j n in
-    let then_ = q.each j n' in
-    let parts = ap (λ c. y *ℤ c) (coefficient-append j ts us) ∙ int_mul_add y (coefficient j ts) (coefficient j us) in
-    omega (arith, ints);
+      let n' : IsNumber j (length ys) = record { from_one = n.from_one; at_most = omega (arith, p.columns, n.at_most) } in
+      let first = p.each j n in
+      let then_ = q.each j n' in
+      let parts = ap (λ c. y *ℤ c) (coefficient-append j ts us) ∙ int_mul_add y (coefficient j ts) (coefficient j us) in
+      omega (arith, ints);
 }
 
 int_add_zero : (a : ℤ) → a +ℤ pos 0 ≡ a
@@ -62,16 +60,16 @@ pub one_drawn : (xs : List ℤ) (t : Term ℤ) (y v : ℤ) → IsNumber t.column
 one_drawn xs t y v n e = record {
   columns = length-set xs (t.column - 1) v;
   each = λ j m.
-    ⊎_elim
-    (λ (s : j ≡ t.column).
-    let P : ℕ → Type 0 = λ i. numbered (pos 0) (set xs (t.column - 1) v) i ≡ numbered (pos 0) xs i +ℤ y *ℤ coefficient i (t ∷ []) in
-    subst P (sym s) (one_drawn_here xs t y v n e))
-    (λ (d : j ≡ t.column → ⊥).
-    let zero_entry = ap (λ x. y *ℤ x) (ap (λ x. x +ℤ pos 0) (entry_elsewhere j t d)) in
-    let none = int_mul_zero y in
-    let same = set_elsewhere xs j t.column v n.from_one d in
-    omega (arith, ints))
-    (cases_eq j t.column);
+      ⊎_elim
+      (λ (s : j ≡ t.column).
+      let P : ℕ → Type 0 = λ i. numbered (pos 0) (set xs (t.column - 1) v) i ≡ numbered (pos 0) xs i +ℤ y *ℤ coefficient i (t ∷ []) in
+      subst P (sym s) (one_drawn_here xs t y v n e))
+      (λ (d : j ≡ t.column → ⊥).
+      let zero_entry = ap (λ x. y *ℤ x) (ap (λ x. x +ℤ pos 0) (entry_elsewhere j t d)) in
+      let none = int_mul_zero y in
+      let same = set_elsewhere xs j t.column v n.from_one d in
+      omega (arith, ints))
+      (cases_eq j t.column);
 }
 
 -- how great what is drawn can be, one term on

@@ -1,5 +1,5 @@
 -- Weak duality: a value over its scale bounds the cost of every point.
-use Rattle.std.proofs.Common.{◌≡◌, ℕ, zero, suc, ◌<◌, ◌≤◌, List, [], ◌∷◌, length, arith, ap, sym, ◌∙◌, refl, subst}
+use Rattle.std.proofs.Common.{◌≡◌, ℕ, zero, suc, List, [], ◌∷◌, length, arith, ap, sym, ◌∙◌, refl, subst}
 use Rattle.std.specs.Prelude.{ℤ, pos, ◌+ℤ◌, ◌-ℤ◌, ◌*ℤ◌, ◌≤ℤ◌, ◌<ℤ◌}
 use Rattle.std.specs.Int.{int_min}
 use Rattle.std.specs.List.{All}
@@ -12,8 +12,8 @@ use Rattle.algebra.specs.Numbered.{numbered, IsNumber}
 use Rattle.algebra.proofs.Products.{int_mul_add, int_add_mul, int_sub_mul, int_mul_assoc, int_mul_comm, int_mul_left_comm}
 use Rattle.algebra.proofs.Order.{int_min_le_mul, int_min_mul, int_mul_le_left, int_mul_pos}
 use Rattle.algebra.proofs.SumsLemmas.{sum_to_zero, sum_to_add, sum_to_sub, sum_to_ext, sum_to_le, sum_to_mul_left, sum_to_mul_right}
-use Rattle.programs.specs.Programs.{Program, ProgramRow, row_count, column_count, row_at, empty_row, bounds_at, cost_at, coefficient}
-use Rattle.programs.specs.Points.{numerator_at, value_at, Satisfies, MeetsRow, IsPoint, cost_share, cost_of_point}
+use Rattle.programs.specs.Programs.{Program, ProgramRow, column_count, empty_row, bounds_at, cost_at, coefficient}
+use Rattle.programs.specs.Points.{numerator_at, value_at, Satisfies, MeetsRow, cost_share, cost_of_point}
 use Rattle.programs.proofs.PointsLemmas.{value_by_columns}
 use Rattle.safe_bounds.specs.Values.{rights_value, combined, reduced_cost, column_value, value_of, HasRightSigns}
 use Rattle.safe_bounds.specs.Bounds.{BoundsCosts, HasNoPoint}
@@ -121,8 +121,8 @@ bounds_costs program scale mults signs = record {
 pub dead_value : (program : Program) (scale value : ℤ) → BoundsCosts program scale value → scale ≡ pos 0 → pos 0 <ℤ value → HasNoPoint program
 dead_value program scale value bound dead above = record {
   none = λ den point one is_point.
-    let b = bound.each den point one is_point in
-    let none = ap (λ s. s *ℤ cost_of_point program point) dead in
-    let some = int_mul_pos den value (omega (arith, ints)) above in
-    omega (arith, ints);
+      let b = bound.each den point one is_point in
+      let none = ap (λ s. s *ℤ cost_of_point program point) dead in
+      let some = int_mul_pos den value (omega (arith, ints)) above in
+      omega (arith, ints);
 }

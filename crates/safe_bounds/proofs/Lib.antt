@@ -3,3 +3,4 @@ pub mod ValueWidths
 pub mod DrawnLemmas
 pub mod StepWidths
 pub mod ColumnsLemmas
+pub mod NarrowingLemmas

@@ -1,9 +1,7 @@
 -- How great the numbers of a value can be, where scale and multipliers are at most k: k times the program's weight.
-use Rattle.std.proofs.Common.{◌≡◌, ℕ, zero, suc, ◌+◌, ◌*◌, ◌^◌, ◌<◌, ◌≤◌, max, List, [], ◌∷◌, arith, ap}
-use Rattle.std.specs.Prelude.{ℤ, pos, ◌+ℤ◌, ◌-ℤ◌, ◌*ℤ◌, unsigned_abs}
-use Rattle.std.specs.Int.{int_min}
-use Rattle.std.specs.List.{All}
-use Rattle.std.proofs.Math.Nat.{mul-add, add-mul, mul_assoc, mul-le-mul_left, mul-le-mul_right}
+use Rattle.std.proofs.Common.{ℕ, zero, suc, ◌+◌, ◌*◌, ◌≤◌, List, [], ◌∷◌, arith}
+use Rattle.std.specs.Prelude.{ℤ, ◌+ℤ◌, ◌*ℤ◌, unsigned_abs}
+use Rattle.std.proofs.Math.Nat.{mul-add, mul_assoc, mul-le-mul_left, mul-le-mul_right}
 use Rattle.std.proofs.lemmas.Int.{ints}
 use Rattle.std.proofs.lemmas.List.Elements.{All-head, All-tail}
 use Rattle.term_store.specs.declared.term.Term.{Term}
@@ -16,7 +14,6 @@ use Rattle.programs.specs.Programs.{Program, ProgramRow, column_count, bounds_at
 use Rattle.programs.specs.Weights.{load_of_terms, load_of_rows, load_of_rights, reach, column_weight, weight}
 use Rattle.safe_bounds.specs.inside.Drawn.{AreAtMost}
 use Rattle.safe_bounds.specs.Values.{rights_value, combined, reduced_cost, column_value, value_of}
-
 
 pub coefficient_load : (j : ℕ) (ts : List (Term ℤ)) → unsigned_abs (coefficient j ts) ≤ load_of_terms j ts
 coefficient_load j [] = omega (arith, ints)

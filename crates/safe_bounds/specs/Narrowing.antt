@@ -1,8 +1,6 @@
 -- Scale and multipliers made narrow: shifted right together until all are within the limit.
-use Rattle.std.specs.Prelude.{◌≡◌, ◌≢◌, ℕ, ◌^◌, ◌/◌, ◌<◌, ◌≤◌, List, length, map, ◌⊎◌, ℤ, pos, negsuc, neg_ℤ, ◌≤ℤ◌, ◌<ℤ◌, unsigned_abs}
+use Rattle.std.specs.Prelude.{◌≡◌, ◌≢◌, ℕ, ◌^◌, ◌/◌, ◌<◌, ◌≤◌, List, length, map, ℤ, pos, negsuc, neg_ℤ, ◌≤ℤ◌, unsigned_abs}
 use Rattle.std.specs.List.{All}
-use Rattle.algebra.specs.Numbered.{IsNumber}
-use Rattle.algebra.specs.Scale.{greatest_scale}
 use Rattle.safe_bounds.specs.Values.{multiplier_at, IsMultiplier}
 
 -- scale and multipliers are within the limit

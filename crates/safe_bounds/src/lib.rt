@@ -3,8 +3,10 @@
 #![tactic(auto)]
 
 mod leaf;
+mod narrowing;
 mod rows;
 mod scratch;
 
 pub use leaf::leaf_value;
+pub use narrowing::narrow;
 pub use scratch::Scratch;

@@ -1,8 +1,7 @@
-use Rattle.std.proofs.Common.{arith, rules, ◌≡◌, ap, sym, subst, ◌∙◌}
-use Rattle.std.specs.Prelude.{ℤ, pos, FitsSigned}
+use Rattle.std.proofs.Common.{rules, sym}
+use Rattle.std.specs.Prelude.{FitsSigned}
 use Rattle.std.specs.Int.{w128}
 use Rattle.std.proofs.lemmas.Int.{to_z-of_z}
-use Rattle.safe_bounds.specs.Bounds.{BoundsCosts}
 use Rattle.safe_bounds.proofs.Duality.{bounds_costs, dead_value}
 use Rattle.safe_bounds.proofs.leaf.leaf_value.Goals as goal
 

@@ -1,7 +1,7 @@
-use Rattle.std.proofs.Common.{rules, arith, ◌≡◌, ℕ, ◌*◌, ◌^◌, ◌≤◌, ◌<◌}
-use Rattle.std.specs.Prelude.{ℤ, pos, FitsSigned, unsigned_abs}
+use Rattle.std.proofs.Common.{rules}
+use Rattle.std.specs.Prelude.{FitsSigned}
 use Rattle.std.specs.Int.{w64, w128}
-use Rattle.std.proofs.lemmas.Int.{ints, to_z-of_z}
+use Rattle.std.proofs.lemmas.Int.{to_z-of_z}
 use Rattle.safe_bounds.proofs.StepWidths.{reduced_fits}
 use Rattle.safe_bounds.proofs.leaf.reduced_cost.Goals as goal
 

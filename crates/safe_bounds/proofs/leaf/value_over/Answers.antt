@@ -1,9 +1,9 @@
-use Rattle.std.proofs.Common.{arith, rules, ◌≡◌, ℕ, ◌+◌, ◌^◌, ◌<◌, ◌≤◌, List, length, get_or, ap, ◌∙◌, sym}
-use Rattle.std.specs.Prelude.{ℤ, pos, ◌+ℤ◌, FitsSigned, unsigned_abs}
+use Rattle.std.proofs.Common.{arith, rules, ◌+◌, ◌<◌, get_or}
+use Rattle.std.specs.Prelude.{pos, FitsSigned}
 use Rattle.std.specs.Int.{w128}
-use Rattle.std.proofs.lemmas.Int.{ints, to_z-of_z}
+use Rattle.std.proofs.lemmas.Int.{to_z-of_z}
 use Rattle.programs.specs.Programs.{column_count}
-use Rattle.safe_bounds.specs.Values.{column_value, reduced_cost, rights_value}
+use Rattle.safe_bounds.specs.Values.{column_value, rights_value}
 use Rattle.safe_bounds.proofs.ColumnsLemmas.{reduced_is, share_is, reach_left, next_part, part_small, part_fits}
 use Rattle.safe_bounds.proofs.leaf.value_over.Goals as goal
 

@@ -1,5 +1,5 @@
-use Rattle.std.proofs.Common.{◌≡◌, ℕ, ◌+◌, ◌*◌, ◌^◌, ◌≤◌, length}
-use Rattle.std.specs.Prelude.{ℤ, pos, ◌+ℤ◌, unsigned_abs}
+use Rattle.std.proofs.Common.{◌≡◌}
+use Rattle.std.specs.Prelude.{◌+ℤ◌}
 use Rattle.algebra.specs.Sums.{sum_to}
 use Rattle.safe_bounds.specs.Values.{column_value, rights_value}
 use Rattle.safe_bounds.proofs.leaf.value_over.Given as goal

@@ -1,5 +1,5 @@
-use Rattle.std.proofs.Common.{arith, rules, ◌≡◌, ℕ, ◌+◌, ◌*◌, ◌^◌, ◌≤◌, List, length, ap}
-use Rattle.std.specs.Prelude.{ℤ, FitsSigned, unsigned_abs}
+use Rattle.std.proofs.Common.{arith, rules, ◌≡◌, ℕ, ◌+◌, ◌*◌, ◌^◌, ◌≤◌, List, length}
+use Rattle.std.specs.Prelude.{ℤ, FitsSigned}
 use Rattle.std.specs.Int.{w64, w128}
 use Rattle.std.proofs.lemmas.Int.{to_z-of_z}
 use Rattle.term_store.specs.declared.term.Term.{Term}
@@ -8,7 +8,6 @@ use Rattle.algebra.proofs.NumberedLemmas.{numbered_in}
 use Rattle.programs.specs.Programs.{Program, ProgramRow, empty_row, row_at, row_count, column_count}
 use Rattle.programs.specs.Limits.{Rises, IsWithinLimits}
 use Rattle.programs.proofs.RisesLemmas.{rises_length}
-use Rattle.safe_bounds.specs.inside.Drawn.{AreAtMost}
 use Rattle.safe_bounds.proofs.DrawnLemmas.{wider}
 use Rattle.safe_bounds.proofs.StepWidths.{product_of_word}
 use Rattle.safe_bounds.proofs.rows.draw_row.Goals as goal

@@ -1,7 +1,7 @@
-use Rattle.std.proofs.Common.{rules, arith, ◌≡◌, ℕ, ◌+◌, ◌^◌, ◌≤◌, ◌-◌, get_or, ap, sym, ◌∙◌}
-use Rattle.std.specs.Prelude.{ℤ, pos, FitsSigned, unsigned_abs}
+use Rattle.std.proofs.Common.{rules, arith, ◌^◌, ◌-◌, get_or}
+use Rattle.std.specs.Prelude.{pos, FitsSigned}
 use Rattle.std.specs.Int.{w64, w128}
-use Rattle.std.proofs.lemmas.Int.{ints, to_z-of_z}
+use Rattle.std.proofs.lemmas.Int.{to_z-of_z}
 use Rattle.safe_bounds.proofs.DrawnLemmas.{one_drawn, one_drawn_width}
 use Rattle.safe_bounds.proofs.StepWidths.{drawn_fits, drawn_width}
 use Rattle.safe_bounds.proofs.rows.draw_term.Goals as goal

@@ -1,8 +1,8 @@
-use Rattle.std.proofs.Common.{arith, ◌≡◌, ℕ, ◌+◌, ◌*◌, ◌^◌, ◌<◌, ◌≤◌, List, [], ◌∷◌, length, get_or, take, ap, sym, ◌∙◌, subst}
-use Rattle.std.specs.Prelude.{ℤ, pos, FitsSigned}
+use Rattle.std.proofs.Common.{arith, ◌≡◌, ℕ, ◌+◌, ◌*◌, ◌^◌, ◌<◌, ◌≤◌, List, [], ◌∷◌, length, get_or, take}
+use Rattle.std.specs.Prelude.{ℤ, FitsSigned}
 use Rattle.std.specs.Int.{w128}
 use Rattle.std.proofs.lemmas.Int.{to_z-of_z}
-use Rattle.std.proofs.lemmas.List.{take_more, take_all}
+use Rattle.std.proofs.lemmas.List.{take_more}
 use Rattle.term_store.specs.declared.term.Term.{Term}
 use Rattle.algebra.specs.Numbered.{IsNumber}
 use Rattle.programs.specs.Limits.{Rises}
@@ -42,11 +42,11 @@ loop-term-preserved c =
     let mult : FitsSigned w128 c.args.mult = c.ranges.mult in
     let before = simp to_z-of_z at c.loop-term.invariant.0 in
     let here = simp to_z-of_z at c.draw_term.ensures.drawn in
-    simp to_z-of_z
-    ( next_drawn c.args.drawn.now c.loop-term.drawn c.draw_term.new.drawn c.args.mult c.args.terms.now c.loop-term.term-index _ c.loop-term-test.true before here
-    , λ k h.
-      next_width c.loop-term.term-index k c.draw_term.new.drawn
-      (c.draw_term.ensures.width (k + c.loop-term.term-index * 2 ^ 103) (c.loop-term.invariant.1 k h))
+    simp to_z-of_z (
+      next_drawn c.args.drawn.now c.loop-term.drawn c.draw_term.new.drawn c.args.mult c.args.terms.now c.loop-term.term-index _ c.loop-term-test.true before here,
+      λ k h.
+          next_width c.loop-term.term-index k c.draw_term.new.drawn
+          (c.draw_term.ensures.width (k + c.loop-term.term-index * 2 ^ 103) (c.loop-term.invariant.1 k h)),
     )
 
 pub returns-clause-width : goal.returns-clause-width
