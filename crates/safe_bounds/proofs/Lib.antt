@@ -4,3 +4,4 @@ pub mod DrawnLemmas
 pub mod StepWidths
 pub mod ColumnsLemmas
 pub mod NarrowingLemmas
+pub mod SparseLemmas
