@@ -19,6 +19,3 @@ pub use judging::judge;
 pub use plan::{Piece, Plan};
 pub use verdict::{Rule, Verdict};
 pub use volumes::table_volume;
-
-#[cfg(test)]
-mod tests;

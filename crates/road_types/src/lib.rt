@@ -12,6 +12,3 @@ pub use fault::Fault;
 pub use listed::Listed;
 pub use road::{Access, Block, Fixed, Hop, Pit, PitKind, Road, Section, Slab};
 pub use text::Text;
-
-#[cfg(test)]
-mod tests;
