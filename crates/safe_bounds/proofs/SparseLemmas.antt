@@ -1,14 +1,14 @@
 -- Multipliers told by pairs, one by one.
-use Rattle.std.proofs.Common.{◌≡◌, ℕ, zero, suc, ◌+◌, ◌-◌, ◌<◌, ◌≤◌, Bool, true, false, List, [], ◌∷◌, ◌++◌, length, get_or, set, take, replicate, arith, ap, sym, ◌∙◌, refl, ⊎_elim, subst}
-use Rattle.std.specs.Prelude.{ℤ, pos, ◌≤ℤ◌, ◌==◌, if◌then◌else◌}
+use Rattle.std.proofs.Common.{◌≡◌, ℕ, zero, suc, ◌+◌, ◌-◌, ◌<◌, ◌≤◌, Bool, List, [], ◌∷◌, ◌++◌, length, get_or, set, take, replicate, arith, ap, sym, ◌∙◌, refl, ⊎_elim, subst}
+use Rattle.std.specs.Prelude.{ℤ, pos, ◌≤ℤ◌, if◌then◌else◌}
 use Rattle.std.specs.List.{All}
 use Rattle.std.proofs.lemmas.Bool.{cases_eq, cases_lt, eq-eqb, ne_eqb}
 use Rattle.std.proofs.lemmas.Int.{ints}
-use Rattle.std.proofs.lemmas.List.{length-append, length-set, get_or-set_same, get_or-set_other, get_or_append_left, get_or_push, length-replicate, get_or-replicate, replicate_more}
+use Rattle.std.proofs.lemmas.List.{length-append, length-set, get_or-set_same, get_or-set_other, get_or_append_left, get_or_push, replicate_more}
 use Rattle.std.proofs.lemmas.List.Elements.{All-nil, All-cons, All-head, All-tail, All-push, All-weaker}
 use Rattle.term_store.specs.declared.side.Side.TheVariants.{AtLeast}
 use Rattle.algebra.specs.Numbered.{numbered, IsNumber}
-use Rattle.algebra.proofs.NumberedLemmas.{numbered_in, same_by_number}
+use Rattle.algebra.proofs.NumberedLemmas.{same_by_number}
 use Rattle.programs.specs.Programs.{Program, row_at, row_count}
 use Rattle.safe_bounds.specs.Values.{multiplier_at, IsMultiplier, AreMultipliers, HasRightSigns}
 use Rattle.safe_bounds.specs.Sparse.{told, dense, RisesByRow}
@@ -101,10 +101,10 @@ are_multipliers-dense program ps h = record {
 pub signs-dense : (program : Program) (ps : List (ℕ × ℤ)) → All (λ p. (row_at program p.0).side ≡ AtLeast → pos 0 ≤ℤ p.1) ps → HasRightSigns program (dense (row_count program) ps)
 signs-dense program ps h = record {
   each = λ i n side.
-    let Q : ℕ → ℤ → Type 0 = λ j y. (row_at program j).side ≡ AtLeast → pos 0 ≤ℤ y in
-    let e = multiplier_at-dense (row_count program) ps i n in
-    let s = told_all Q ps i (λ t. omega (arith, ints)) h side in
-    rw e s;
+      let Q : ℕ → ℤ → Type 0 = λ j y. (row_at program j).side ≡ AtLeast → pos 0 ≤ℤ y in
+      let e = multiplier_at-dense (row_count program) ps i n in
+      let s = told_all Q ps i (λ t. omega (arith, ints)) h side in
+      rw e s;
 }
 
 pub pair_number : (before count : ℕ) (ps : List (ℕ × ℤ)) (k : ℕ) (other : ℕ × ℤ) → RisesByRow before count ps → k < length ps → IsNumber (get_or ps k other).0 count

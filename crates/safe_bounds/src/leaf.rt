@@ -68,5 +68,7 @@ fn least_share(milp: &Milp, j: usize, reduced: i128) -> i128
     ensures { result ≡ int_min (reduced *ℤ (bounds_at milp.now j).0) (reduced *ℤ (bounds_at milp.now j).1) }
 {
     let (low, high) = milp.bounds(j);
-    times(reduced, i128::from(low)).min(times(reduced, i128::from(high)))
+    let at_low = times(reduced, i128::from(low));
+    let at_high = times(reduced, i128::from(high));
+    at_low.min(at_high)
 }
