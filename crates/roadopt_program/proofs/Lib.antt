@@ -1,3 +1,6 @@
 pub mod CostLemmas
+mod CommandLemmas
 mod FormsLemmas
-pub mod JudgingLaws
+mod StatusLemmas
+pub mod DueLaws
+pub mod RunLaws
