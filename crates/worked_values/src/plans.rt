@@ -30,7 +30,9 @@ pub(crate) fn rewrite(rt: &HostRuntime, names: &str) -> Result<String, AllocErro
     }
 }
 
-fn written(alloc: Global, road: &Road, plan: &Plan) -> Result<String, AllocError> {
+fn written(alloc: Global, road: &Road, plan: &Plan) -> Result<String, AllocError>
+    requires { Fits road.now plan.now }
+{
     let mut out = b"before:".to_vec(alloc)?;
     write_plan(road, plan, &mut out)?;
     let text = shown::bytes(alloc, Some(out.as_slice()))?;

@@ -18,9 +18,9 @@ pub(crate) fn rows(alloc: Global, name: &str) -> Result<String, AllocError> {
         }
         "write_stay" => {
             write_second(&mut rows);
-            rows.swap_rows(1, 1);
+            stay(&mut rows);
         }
-        "stay" => rows.swap_rows(1, 1),
+        "stay" => stay(&mut rows),
         "side" => return String::from_str(alloc, side(Side::Equal == Side::AtLeast)),
         _ => {}
     }
@@ -68,6 +68,13 @@ fn write_second(rows: &mut Rows<i64>)
     if view.len() == 1 && view.term(0) == term(4, 7) {
         view.set(0, term(3, 8));
         view.push(term(6, 2));
+    }
+}
+
+/// Exchanges the second row with itself.
+fn stay(rows: &mut Rows<i64>) {
+    if rows.count() > 1 {
+        rows.swap_rows(1, 1);
     }
 }
 
