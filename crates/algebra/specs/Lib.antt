@@ -1,3 +1,4 @@
 pub mod Sums
+pub mod Scale
 pub mod Totals
 pub mod Numbered

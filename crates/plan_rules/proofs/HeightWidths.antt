@@ -6,28 +6,26 @@ use Rattle.algebra.proofs.Magnitudes.{unsigned_abs_mul_le, unsigned_abs_add_le}
 use Rattle.road_types.specs.Numbered.{IsNumber}
 use Rattle.road_types.specs.Heights.{height_along}
 use Rattle.road_types.specs.Road.{segment_count}
-use Rattle.road_types.specs.Accepted.{IsAccepted}
+use Rattle.road_types.specs.WellFormed.{IsWellFormed}
 use Rattle.road_types.specs.declared.road.Road.{Road}
 use Rattle.plan_rules.specs.declared.plan.Plan.{Plan}
 use Rattle.plan_rules.specs.Plans.{piece_of}
 use Rattle.plan_rules.specs.Fits.{Fits}
 use Rattle.plan_rules.specs.Rules.{IsWithin, IsLimited}
-use Rattle.plan_rules.specs.Widths.{IsDenominator, IsSmallPiece}
-
-pub denominator_of_fits : (road : Road) (plan : Plan) → Fits road plan → IsDenominator plan.den
-denominator_of_fits road plan f = record { from_one = f.is_plan.den; at_most = f.den }
+use Rattle.plan_rules.specs.inside.Widths.{IsSmallPiece}
+use Rattle.algebra.specs.Scale.{IsScale}
 
 -- a number between multiples of the denominator by numbers of magnitude at most n
-pub within_width : (low high den x : ℤ) (n : ℕ) → IsDenominator den → unsigned_abs low ≤ n → unsigned_abs high ≤ n → IsWithin low high den x → unsigned_abs x ≤ n * 2 ^ 40
+pub within_width : (low high den x : ℤ) (n : ℕ) → IsScale den → unsigned_abs low ≤ n → unsigned_abs high ≤ n → IsWithin low high den x → unsigned_abs x ≤ n * 2 ^ 40
 within_width low high den x n d p q h =
     let wide : unsigned_abs den ≤ 2 ^ 40 = omega (arith, ints, d.from_one, d.at_most) in
     let least = unsigned_abs_mul_le low den n (2 ^ 40) p wide in
     let most = unsigned_abs_mul_le high den n (2 ^ 40) q wide in
     omega (arith, ints, h.at_least, h.at_most)
 
-pub small_piece : (road : Road) (plan : Plan) → IsAccepted road → Fits road plan → IsLimited road plan → (g : ℕ) → IsNumber g (segment_count road) → IsSmallPiece (piece_of plan g)
+pub small_piece : (road : Road) (plan : Plan) → IsWellFormed road → Fits road plan → IsLimited road plan → (g : ℕ) → IsNumber g (segment_count road) → IsSmallPiece (piece_of plan g)
 small_piece road plan ok f limited g number =
-    let den = denominator_of_fits road plan f in
+    let den = f.den in
     let inside = limited.each g number in
     let low : unsigned_abs road.low ≤ 10000000 = omega (arith, ints, ok.low.at_least, ok.low.at_most) in
     let high : unsigned_abs road.high ≤ 10000000 = omega (arith, ints, ok.high.at_least, ok.high.at_most) in
@@ -40,17 +38,3 @@ small_piece road plan ok f limited g number =
       b = omega (arith, within_width road.grade.0 road.grade.1 plan.den (piece_of plan g).b 1000000 den grade_low grade_high inside.grade);
       c = omega (arith, within_width (neg_ℤ road.curve) road.curve plan.den (piece_of plan g).c 1000000 den least curve inside.curve);
     }
-
-pub square_width : (s : ℤ) → unsigned_abs s ≤ 2 ^ 17 → unsigned_abs (s *ℤ s) ≤ 2 ^ 34
-square_width s p = omega (arith, unsigned_abs_mul_le s s (2 ^ 17) (2 ^ 17) p p)
-
-pub bend_width : (c s : ℤ) → unsigned_abs c ≤ 2 ^ 60 → unsigned_abs s ≤ 2 ^ 17 → unsigned_abs (c *ℤ (s *ℤ s)) ≤ 2 ^ 94
-bend_width c s p q = omega (arith, unsigned_abs_mul_le c (s *ℤ s) (2 ^ 60) (2 ^ 34) p (square_width s q))
-
-pub rise_width : (a b s : ℤ) → unsigned_abs a ≤ 2 ^ 64 → unsigned_abs b ≤ 2 ^ 60 → unsigned_abs s ≤ 2 ^ 17 → unsigned_abs (a +ℤ b *ℤ s) ≤ 2 ^ 78
-rise_width a b s p q r =
-    omega (arith, unsigned_abs_add_le a (b *ℤ s) (2 ^ 64) (2 ^ 77) p (omega (arith, unsigned_abs_mul_le b s (2 ^ 60) (2 ^ 17) q r)))
-
-pub height_width : (a b c s : ℤ) → unsigned_abs a ≤ 2 ^ 64 → unsigned_abs b ≤ 2 ^ 60 → unsigned_abs c ≤ 2 ^ 60 → unsigned_abs s ≤ 2 ^ 17 → unsigned_abs (height_along a b c s) ≤ 2 ^ 96
-height_width a b c s p q r t =
-    omega (arith, unsigned_abs_add_le (a +ℤ b *ℤ s) (c *ℤ (s *ℤ s)) (2 ^ 78) (2 ^ 94) (rise_width a b s p q t) (bend_width c s r t))

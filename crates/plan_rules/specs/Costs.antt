@@ -1,41 +1,78 @@
--- What a plan costs, over its denominator.
-use Rattle.std.specs.Prelude.{ℕ, nat_le, if◌then◌else◌, ℤ, pos, ◌+ℤ◌, ◌*ℤ◌, ◌<ℤ◌}
+-- What a plan costs, over its denominator: the sum of five totals, for cut, fill, hauls, access roads and removals. Also which
+-- plans undercut a fraction.
+use Rattle.std.specs.Prelude.{ℕ, nat_le, if◌then◌else◌, List, ℤ, pos, ◌+ℤ◌, ◌*ℤ◌, ◌<ℤ◌}
 use Rattle.algebra.specs.Sums.{sum_to}
-use Rattle.road_types.specs.Road.{section, hop, pit, access, block, section_count, hop_count, access_count, block_count}
+use Rattle.road_types.specs.Road.{section, hop, block, section_count, hop_count, access_count, block_count, access_unit_cost}
 use Rattle.road_types.specs.declared.road.Road.{Road}
+use Rattle.plan_rules.specs.declared.costs.Movement.{Movement}
+use Rattle.plan_rules.specs.declared.costs.Movement.TheVariants.{Cut, Fill, Right, Left, Access}
 use Rattle.plan_rules.specs.declared.plan.Plan.{Plan}
-use Rattle.plan_rules.specs.Plans.{amount, opening}
+use Rattle.plan_rules.specs.Plans.{IsPlanOf, amount, opening}
 
--- the cost of cut and fill of section i in stage t
-abbrev pub section_cost : Road → Plan → ℕ → ℕ → ℤ
-section_cost road plan t i =
-    (section road i).cut_cost *ℤ amount plan.cut t i +ℤ (section road i).fill_cost *ℤ amount plan.fill t i
+-- ---- what is moved: for each kind its amounts, how many there are in a stage, and the unit cost of each
 
--- the cost of hauls over hop h in stage t, both ways
-abbrev pub hop_cost : Road → Plan → ℕ → ℕ → ℤ
-hop_cost road plan t h = (hop road h).right_cost *ℤ amount plan.right t h +ℤ (hop road h).left_cost *ℤ amount plan.left t h
+abbrev pub amounts_of : Plan → Movement → List (List ℤ)
+amounts_of plan Cut = plan.cut
+amounts_of plan Fill = plan.fill
+amounts_of plan Right = plan.right
+amounts_of plan Left = plan.left
+amounts_of plan Access = plan.roads
 
--- a litre on access road q costs what the road and its pit cost
-abbrev pub access_unit_cost : Road → ℕ → ℤ
-access_unit_cost road q = (access road q).cost +ℤ (pit road (access road q).pit).cost
+abbrev pub entry_count : Road → Movement → ℕ
+entry_count road Cut = section_count road
+entry_count road Fill = section_count road
+entry_count road Right = hop_count road
+entry_count road Left = hop_count road
+entry_count road Access = access_count road
 
-abbrev pub access_cost : Road → Plan → ℕ → ℕ → ℤ
-access_cost road plan t q = access_unit_cost road q *ℤ amount plan.roads t q
+abbrev pub unit_cost : Road → Movement → ℕ → ℤ
+unit_cost road Cut i = (section road i).cut_cost
+unit_cost road Fill i = (section road i).fill_cost
+unit_cost road Right h = (hop road h).right_cost
+unit_cost road Left h = (hop road h).left_cost
+unit_cost road Access q = access_unit_cost road q
 
--- all that is moved in stage t
-unfoldable pub stage_cost : Road → Plan → ℕ → ℤ
-stage_cost road plan t =
-    (sum_to (section_cost road plan t) (section_count road) +ℤ sum_to (hop_cost road plan t) (hop_count road))
-    +ℤ sum_to (access_cost road plan t) (access_count road)
+-- unit cost times amount
+abbrev pub entry_cost : Road → Plan → Movement → ℕ → ℕ → ℤ
+entry_cost road plan m t i = unit_cost road m i *ℤ amount (amounts_of plan m) t i
+
+-- all entries of stage t
+unfoldable pub stage_cost : Road → Plan → Movement → ℕ → ℤ
+stage_cost road plan m t = sum_to (entry_cost road plan m t) (entry_count road m)
+
+-- all stages
+unfoldable pub movement_cost : Road → Plan → Movement → ℤ
+movement_cost road plan m = sum_to (stage_cost road plan m) road.stages
 
 -- the removal of block k, which is paid where it opens in one of the road's stages
 abbrev pub removal_cost : Road → Plan → ℕ → ℤ
 removal_cost road plan k = if nat_le (opening plan k) road.stages then plan.den *ℤ (block road k).cost else pos 0
 
--- all that is moved, and the removals
-unfoldable pub cost_of : Road → Plan → ℤ
-cost_of road plan = sum_to (stage_cost road plan) road.stages +ℤ sum_to (removal_cost road plan) (block_count road)
+-- ---- the five totals and their sum
 
--- the plan costs less than the fraction
-abbrev pub Undercuts : Road → Plan → ℤ → ℤ → Type 0
-Undercuts road plan num den = (cost_of road plan *ℤ den) <ℤ (num *ℤ plan.den)
+abbrev pub cut_total : Road → Plan → ℤ
+cut_total road plan = movement_cost road plan Cut
+
+abbrev pub fill_total : Road → Plan → ℤ
+fill_total road plan = movement_cost road plan Fill
+
+-- hauls to the right and to the left
+abbrev pub haul_total : Road → Plan → ℤ
+haul_total road plan = movement_cost road plan Right +ℤ movement_cost road plan Left
+
+-- access roads with their pits
+abbrev pub access_total : Road → Plan → ℤ
+access_total road plan = movement_cost road plan Access
+
+unfoldable pub removal_total : Road → Plan → ℤ
+removal_total road plan = sum_to (removal_cost road plan) (block_count road)
+
+unfoldable pub cost_of : Road → Plan → ℤ
+cost_of road plan =
+    (((cut_total road plan +ℤ fill_total road plan) +ℤ haul_total road plan) +ℤ access_total road plan)
+    +ℤ removal_total road plan
+
+-- a plan of the road that costs less than the fraction
+pub record Undercuts (road : Road) (plan : Plan) (num den : ℤ) : Type 0 where
+  pub is_plan : IsPlanOf road plan
+  pub less : (cost_of road plan *ℤ den) <ℤ (num *ℤ plan.den)

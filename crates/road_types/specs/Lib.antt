@@ -2,5 +2,8 @@ pub mod Numbered
 pub mod Heights
 pub mod Volumes
 pub mod Road
+pub mod Limits
+pub mod RecordFaults
+pub mod WellFormed
 pub mod Faults
 pub mod Accepted

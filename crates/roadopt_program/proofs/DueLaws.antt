@@ -9,9 +9,9 @@ use Rattle.plan_rules.specs.declared.plan.Plan.{Plan}
 use Rattle.plan_rules.specs.declared.verdict.Rule.{Rule}
 use Rattle.plan_rules.specs.declared.verdict.Rule.TheVariants.{P1, P2, P3, P4, P5, P6, P7, P8, P9}
 use Rattle.plan_rules.specs.Costs.{cost_of}
-use Rattle.plan_rules.specs.Rules.{IsFirstBroken, number_of}
-use Rattle.plan_text.specs.WholeText.{plan_of_text}
-use Rattle.plan_text.specs.Due.{refused_line}
+use Rattle.plan_rules.specs.Rules.{IsFirstBroken, rule_number}
+use Rattle.plan_text.specs.inside.PlanReading.{plan_of_text}
+use Rattle.plan_text.specs.Misfits.{refused_line}
 use Rattle.plan_text.proofs.AnswerLaws.{plan_of_text-exact}
 use Rattle.numbers.proofs.FractionsLemmas.{same_value_fraction}
 use Rattle.roadopt_program.specs.declared.forms.Verb.{Verb}
@@ -45,7 +45,7 @@ same_number (suc n) (suc m) p q = ap suc (same_number n m (λ l. p (omega (arith
 rule_at : ℕ → Rule
 rule_at n = get_or (P1 ∷ P2 ∷ P3 ∷ P4 ∷ P5 ∷ P6 ∷ P7 ∷ P8 ∷ P9 ∷ []) (n - 1) P1
 
-rule_at-number : (r : Rule) → rule_at (number_of r) ≡ r
+rule_at-number : (r : Rule) → rule_at (rule_number r) ≡ r
 unfolding rule_at
 rule_at-number P1 = refl
 rule_at-number P2 = refl
@@ -57,12 +57,12 @@ rule_at-number P7 = refl
 rule_at-number P8 = refl
 rule_at-number P9 = refl
 
-less_rule : (road : Road) (plan : Plan) (r s : Rule) (t u p q : ℕ) → IsFirstBroken road plan r t p → IsFirstBroken road plan s u q → number_of r < number_of s → ⊥
+less_rule : (road : Road) (plan : Plan) (r s : Rule) (t u p q : ℕ) → IsFirstBroken road plan r t p → IsFirstBroken road plan s u q → rule_number r < rule_number s → ⊥
 less_rule road plan r s t u p q a b l = a.broken.not_kept (b.lesser_rules r t p l a.broken.is_place)
 
 same_rule : (road : Road) (plan : Plan) (r s : Rule) (t u p q : ℕ) → IsFirstBroken road plan r t p → IsFirstBroken road plan s u q → r ≡ s
 same_rule road plan r s t u p q a b =
-    let numbers : number_of r ≡ number_of s = same_number (number_of r) (number_of s) (less_rule road plan r s t u p q a b) (less_rule road plan s r u t q p b a) in
+    let numbers : rule_number r ≡ rule_number s = same_number (rule_number r) (rule_number s) (less_rule road plan r s t u p q a b) (less_rule road plan s r u t q p b a) in
     sym (rule_at-number r) ∙ ap rule_at numbers ∙ rule_at-number s
 
 less_stage : (road : Road) (plan : Plan) (r : Rule) (t u p q : ℕ) → IsFirstBroken road plan r t p → IsFirstBroken road plan r u q → t < u → ⊥

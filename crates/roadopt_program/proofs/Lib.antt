@@ -1,4 +1,3 @@
-pub mod CostLemmas
 mod CommandLemmas
 mod FormsLemmas
 mod StatusLemmas

@@ -6,8 +6,8 @@ use Rattle.plan_rules.specs.declared.plan.Plan.{Plan}
 use Rattle.plan_rules.specs.declared.verdict.Rule.{Rule}
 use Rattle.plan_rules.specs.Rules.{IsAdmissible, IsFirstBroken}
 use Rattle.plan_rules.specs.Costs.{cost_of}
-use Rattle.plan_text.specs.Due.{refused_line}
-use Rattle.plan_text.specs.WholeText.{IsPlanText}
+use Rattle.plan_text.specs.Misfits.{refused_line}
+use Rattle.plan_text.specs.PlanText.{IsPlanText}
 use Rattle.numbers.specs.Fractions.{Fraction, IsReduced, HasValue}
 use Rattle.roadopt_program.specs.declared.status.Status.{Status}
 use Rattle.roadopt_program.specs.declared.status.Status.TheVariants.{Done, PlanBroken, PlanRefused}
