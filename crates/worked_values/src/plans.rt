@@ -2,15 +2,15 @@
 ghost use Rattle.std.specs.Prelude.{◌≡◌, None};
 ghost use Rattle.road_types.specs.Faults.{road_fault};
 ghost use Rattle.road_types.specs.Numbered.{IsNumber};
-ghost use Rattle.road_types.specs.Road.{section, section_count};
+ghost use Rattle.road_types.specs.Road.{section_count};
 ghost use Rattle.plan_rules.specs.Fits.{Fits};
 ghost use Rattle.plan_rules.specs.Rules.{IsLimited};
 
 use crate::roads::{file, road};
 use crate::shown;
-use plan_rules::{Plan, Rule, Verdict, height_at, judge, offset_of, table_volume};
+use plan_rules::{Plan, Rule, Verdict, height_at, judge, offset_of};
 use plan_text::{TextErr, read_plan, read_whole_plan, write_plan};
-use road_types::{Road, Section};
+use road_types::{Road, table_volume};
 use std::alloc::{AllocError, Global};
 use text_parts::Lines;
 
@@ -34,7 +34,7 @@ fn written(alloc: Global, road: &Road, plan: &Plan) -> Result<String, AllocError
     requires { Fits road.now plan.now }
 {
     let mut out = b"before:".to_vec(alloc)?;
-    write_plan(road, plan, &mut out)?;
+    write_plan(alloc, road, plan, &mut out)?;
     let text = shown::bytes(alloc, Some(out.as_slice()))?;
     let (den, pieces, stages, opens) = (
         plan.den,
@@ -116,15 +116,8 @@ fn measures(road: &Road, plan: &Plan, number: usize) -> (i128, i128, i128)
     requires limited { IsLimited road.now plan.now }
     requires number { IsNumber number (section_count road.now) }
 {
-    let section = section_at(road, number);
+    let section = road.section(number);
     let height = height_at(road, plan, section.station);
     let volume = table_volume(section.cut.as_slice(), 20, 2);
     (height, offset_of(road, plan, number), volume)
-}
-
-fn section_at(road: &Road, number: usize) -> &Section
-    requires { IsNumber number (section_count road.now) }
-    ensures { result.now ≡ section road.now number }
-{
-    &road.sections.as_slice()[number - 1]
 }
