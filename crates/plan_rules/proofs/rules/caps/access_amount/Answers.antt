@@ -4,7 +4,7 @@ use Rattle.std.proofs.lemmas.Int.{to_z-of_z}
 use Rattle.plan_rules.specs.Plans.{amount}
 use Rattle.plan_rules.proofs.FitsLemmas.{amounts_of_fits}
 use Rattle.plan_rules.proofs.SumWidths.{sum_step_fits, sum_more}
-use Rattle.plan_rules.proofs.rules.caps.road_total.Goals as goal
+use Rattle.plan_rules.proofs.rules.caps.access_amount.Goals as goal
 
 pub plus-total-requires : goal.plus-total-requires
 plus-total-requires c =
