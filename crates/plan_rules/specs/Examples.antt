@@ -4,10 +4,8 @@ use Rattle.std.specs.Prelude.{[], ◌∷◌, ℤ, pos}
 use Rattle.road_types.specs.declared.road.Road.{Road}
 use Rattle.road_types.specs.declared.road.Section.{Section}
 use Rattle.road_types.specs.declared.road.Slab.{Slab}
-use Rattle.road_types.specs.declared.road.Hop.{Hop}
 use Rattle.road_types.specs.declared.road.Fixed.{Fixed}
 use Rattle.plan_rules.specs.declared.plan.Plan.{Plan}
-use Rattle.plan_rules.specs.declared.plan.Piece.{Piece}
 
 -- the height of a section's ground
 abbrev ground : Section → ℤ

@@ -1,6 +1,6 @@
 -- The rules of a plan, by rule, stage and place: limits, continuity, fixed points, volumes, caps, flows, blocks. A place is kept
 -- where the rule holds there; a plan of the road is admissible where every place of every rule is kept.
-use Rattle.std.specs.Prelude.{◌≡◌, ℕ, zero, suc, Bool, true, false, ◌+◌, ◌-◌, ◌<◌, ◌≤◌, ◌==◌, nat_le, ◌&&◌, if◌then◌else◌, ℤ, pos, neg_ℤ, ◌+ℤ◌, ◌-ℤ◌, ◌*ℤ◌, ◌≤ℤ◌}
+use Rattle.std.specs.Prelude.{◌≡◌, ℕ, zero, suc, ◌+◌, ◌-◌, ◌<◌, ◌≤◌, ◌==◌, nat_le, ◌&&◌, if◌then◌else◌, ℤ, pos, neg_ℤ, ◌+ℤ◌, ◌-ℤ◌, ◌*ℤ◌, ◌≤ℤ◌}
 use Rattle.algebra.specs.Sums.{sum_to}
 use Rattle.road_types.specs.Numbered.{IsNumber}
 use Rattle.road_types.specs.Heights.{height_along, grade_along, segment_at, steps_along, segment_length}
