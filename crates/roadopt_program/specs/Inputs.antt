@@ -2,17 +2,18 @@
 --     road_limit      how many bytes of a road or a plan are read at the most
 --     IsGiven told name most given      what a read of the named file gives: its bytes up to the limit, or none where there is no such file
 --     Given, AreGiven told command given      the same for all the files of a command
-use Rattle.std.specs.Prelude.{◌≡◌, ℕ, ◌+◌, ◌^◌, Option, None, List, IfSome, take}
+use Rattle.std.specs.Prelude.{◌≡◌, ℕ, ◌+◌, Option, None, List, IfSome, take}
 use Rattle.std.specs.Option.{option_map}
 use Rattle.std.specs.FinMap.{get}
 use Rattle.outside.specs.Files.{Files}
+use Rattle.road_types.specs.Limits.{longest_file}
 use Rattle.roadopt_program.specs.declared.forms.Verb.{Verb}
 use Rattle.roadopt_program.specs.declared.forms.Verb.TheVariants.{Judge}
 use Rattle.roadopt_program.specs.Forms.{Command}
 
 -- one more byte than a road file may have
 unfoldable pub road_limit : ℕ
-road_limit = 2 ^ 22 + 1
+road_limit = longest_file + 1
 
 -- how many bytes of a command's further file are read at the most
 abbrev pub other_limit : Verb → ℕ

@@ -1,4 +1,5 @@
 -- What `judge ROAD PLAN` answers for an accepted road: the status and the line that is due.
+--     PrintsCost, PrintsFirstBroken, PrintsRefusedLine      what the line says of a plan, and of bytes that are none
 --     Judges road given end      the end for what the plan's file gives
 use Rattle.std.specs.Prelude.{◌≡◌, ℕ, Option, Some, None, List, ℤ}
 use Rattle.road_types.specs.declared.road.Road.{Road}

@@ -7,6 +7,7 @@ ghost use Rattle.roadopt_program.specs.declared.inputs.Lost.TheVariants.{NoMemor
 
 use crate::forms::Verb;
 use outside::{Store, StoreErr};
+use road_types::LONGEST_FILE;
 use std::alloc::{AllocError, Global};
 
 /// What a run needed and didn't get.
@@ -32,7 +33,7 @@ pub(crate) fn road_limit() -> usize
     ensures value { result ≡ road_limit }
     ensures within { result ≤ 2 ^ 26 + 1 }
 {
-    (1 << 22) + 1
+    LONGEST_FILE + 1
 }
 
 impl Verb {
