@@ -1,5 +1,5 @@
-use Rattle.std.proofs.Common.{◌≡◌, ◌≤◌, sym, arith}
-use Rattle.std.specs.Prelude.{FitsSigned, unsigned_abs}
+use Rattle.std.proofs.Common.{arith}
+use Rattle.std.specs.Prelude.{FitsSigned}
 use Rattle.std.specs.Int.{w8, w128}
 use Rattle.std.proofs.lemmas.Int.{to_z-of_z, fits_signed_from_abs}
 use Rattle.worked_values.proofs.SmallLemmas.{divisor_from, divisor_within}
