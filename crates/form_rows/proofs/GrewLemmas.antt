@@ -95,7 +95,7 @@ terms_step road f n start now next p q =
     ∙ ap (λ ts. ts ++ last) p
     ∙ append_assoc start (terms_of road (list_to f n)) last
     ∙ ap (λ ts. start ++ ts)
-      (ap (λ ts. terms_of road (list_to f n) ++ ts) (sym (append-nil last)) ∙ sym (terms_list road f n))
+    (ap (λ ts. terms_of road (list_to f n) ++ ts) (sym (append-nil last)) ∙ sym (terms_list road f n))
 
 pub terms_steps : (road : Road) (f : ℕ → List (Column × ℤ)) (n : ℕ) (start now next : List (Term ℤ)) → now ≡ start ++ terms_of road (flat_to f n)
     → next ≡ now ++ terms_of road (f (n + 1)) → next ≡ start ++ terms_of road (flat_to f (n + 1))

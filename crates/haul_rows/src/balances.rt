@@ -39,7 +39,14 @@ fn add_brought(road: &Road, section: usize, stage: usize, row: &mut FormRow)
 {
     for before in 0..road.roads.len() {
         let number = before + 1;
-        row.add(road, Column::Access { road: number, stage }, brought(road, section, number));
+        row.add(
+            road,
+            Column::Access {
+                road: number,
+                stage,
+            },
+            brought(road, section, number),
+        );
     }
 }
 
@@ -60,9 +67,21 @@ fn balance_row(road: &Road, stage: usize, section: usize, row: &mut FormRow, row
             (Column::Cut { section, stage }, 1),
             (Column::Fill { section, stage }, -1),
             (Column::Right { hop: before, stage }, 1),
-            (Column::Right { hop: section, stage }, -1),
+            (
+                Column::Right {
+                    hop: section,
+                    stage,
+                },
+                -1,
+            ),
             (Column::Left { hop: before, stage }, -1),
-            (Column::Left { hop: section, stage }, 1),
+            (
+                Column::Left {
+                    hop: section,
+                    stage,
+                },
+                1,
+            ),
         ],
     );
     add_brought(road, section, stage, row);

@@ -27,7 +27,11 @@ fn right_cap(road: &Road, number: usize) -> i64
     ensures from { pos 0 ≤ℤ result }
     ensures to { result ≤ℤ pos 100000000000000 }
 {
-    if is_hop(road, number) { road.hop(number).right_max } else { 0 }
+    if is_hop(road, number) {
+        road.hop(number).right_max
+    } else {
+        0
+    }
 }
 
 /// The cap of hauls to the left over a hop, 0 past an end.
@@ -37,7 +41,11 @@ fn left_cap(road: &Road, number: usize) -> i64
     ensures from { pos 0 ≤ℤ result }
     ensures to { result ≤ℤ pos 100000000000000 }
 {
-    if is_hop(road, number) { road.hop(number).left_max } else { 0 }
+    if is_hop(road, number) {
+        road.hop(number).left_max
+    } else {
+        0
+    }
 }
 
 /// The most that can leave a section by hauls in a stage.
@@ -65,8 +73,20 @@ fn transit_row(road: &Road, block: usize, stage: usize, row: &mut FormRow, rows:
         road,
         &[
             (Column::Cut { section, stage }, 1),
-            (Column::Right { hop: section, stage }, -1),
-            (Column::Left { hop: section - 1, stage }, -1),
+            (
+                Column::Right {
+                    hop: section,
+                    stage,
+                },
+                -1,
+            ),
+            (
+                Column::Left {
+                    hop: section - 1,
+                    stage,
+                },
+                -1,
+            ),
             (Column::Opened { block, stage }, hauls),
         ],
     );
@@ -119,7 +139,10 @@ fn cut_stop_row(road: &Road, block: usize, stage: usize, row: &mut FormRow, rows
     row.clear();
     row.add_all(
         road,
-        &[(Column::Cut { section, stage }, -1), (Column::Opened { block, stage }, cap)],
+        &[
+            (Column::Cut { section, stage }, -1),
+            (Column::Opened { block, stage }, cap),
+        ],
     );
     row.put(rows);
 }
@@ -137,7 +160,10 @@ fn fill_stop_row(road: &Road, block: usize, stage: usize, row: &mut FormRow, row
     row.clear();
     row.add_all(
         road,
-        &[(Column::Fill { section, stage }, -1), (Column::Opened { block, stage }, cap)],
+        &[
+            (Column::Fill { section, stage }, -1),
+            (Column::Opened { block, stage }, cap),
+        ],
     );
     row.put(rows);
 }
@@ -182,7 +208,10 @@ fn order_row(road: &Road, block: usize, stage: usize, row: &mut FormRow, rows: &
     row.clear();
     row.add_all(
         road,
-        &[(Column::Opened { block, stage }, -1), (Column::Opened { block, stage: next }, 1)],
+        &[
+            (Column::Opened { block, stage }, -1),
+            (Column::Opened { block, stage: next }, 1),
+        ],
     );
     row.put(rows);
 }

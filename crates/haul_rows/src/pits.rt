@@ -19,7 +19,11 @@ fn taken(road: &Road, pit: usize, number: usize) -> i64
     requires { IsNumber number (access_count road.now) }
     ensures { result ≡ taken road.now pit number }
 {
-    if road.access(number).pit == pit { -1 } else { 0 }
+    if road.access(number).pit == pit {
+        -1
+    } else {
+        0
+    }
 }
 
 /// Adds the amounts on access roads in a stage, by what they take of a pit's capacity.
@@ -32,7 +36,14 @@ fn add_taken(road: &Road, pit: usize, stage: usize, row: &mut FormRow)
 {
     for before in 0..road.roads.len() {
         let number = before + 1;
-        row.add(road, Column::Access { road: number, stage }, taken(road, pit, number));
+        row.add(
+            road,
+            Column::Access {
+                road: number,
+                stage,
+            },
+            taken(road, pit, number),
+        );
     }
 }
 

@@ -110,34 +110,44 @@ pub(crate) fn continuity_rows(road: &Road, row: &mut FormRow, rows: &mut Rows<i6
     }
 }
 
-/// The row that asks a least grade after so many steps of a segment.
-fn least_grade_row(road: &Road, segment: usize, s: i64, row: &mut FormRow, rows: &mut Rows<i64>)
+/// The row that asks a least grade at a segment's end.
+fn least_grade_row(road: &Road, segment: usize, row: &mut FormRow, rows: &mut Rows<i64>)
     requires accepted { IsAccepted road.now }
-    requires s { unsigned_abs s ≤ 2 ^ 17 }
+    requires segment { IsNumber segment (segment_count road.now) }
     requires free { length rows.old.rows < rows.old.room }
     requires width { column_count road.now ≤ rows.old.width }
-    ensures { Grew rows.old rows.new (terms_of road.now (grade_entries segment s) ∷ []) }
+    ensures { Grew rows.old rows.new
+        (terms_of road.now (grade_entries segment (segment_length road.now.knots segment)) ∷ []) }
 {
+    let s = road.segment_length(segment);
     row.clear();
     row.add_all(
         road,
-        &[(Column::B { segment }, 1), (Column::C { segment }, double(s))],
+        &[
+            (Column::B { segment }, 1),
+            (Column::C { segment }, double(s)),
+        ],
     );
     row.put(rows);
 }
 
-/// The row that asks a greatest grade after so many steps of a segment.
-fn greatest_grade_row(road: &Road, segment: usize, s: i64, row: &mut FormRow, rows: &mut Rows<i64>)
+/// The row that asks a greatest grade at a segment's end.
+fn greatest_grade_row(road: &Road, segment: usize, row: &mut FormRow, rows: &mut Rows<i64>)
     requires accepted { IsAccepted road.now }
-    requires s { unsigned_abs s ≤ 2 ^ 17 }
+    requires segment { IsNumber segment (segment_count road.now) }
     requires free { length rows.old.rows < rows.old.room }
     requires width { column_count road.now ≤ rows.old.width }
-    ensures { Grew rows.old rows.new (terms_of road.now (negated (grade_entries segment s)) ∷ []) }
+    ensures { Grew rows.old rows.new
+        (terms_of road.now (negated (grade_entries segment (segment_length road.now.knots segment))) ∷ []) }
 {
+    let s = road.segment_length(segment);
     row.clear();
     row.add_all(
         road,
-        &[(Column::B { segment }, -1), (Column::C { segment }, opposite(double(s)))],
+        &[
+            (Column::B { segment }, -1),
+            (Column::C { segment }, opposite(double(s))),
+        ],
     );
     row.put(rows);
 }
@@ -150,20 +160,30 @@ pub(crate) fn grade_end_rows(road: &Road, row: &mut FormRow, rows: &mut Rows<i64
     ensures { Grew rows.old rows.new (forms_terms road.now (grade_end_forms road.now)) }
 {
     for before in 0..road.knots.len() - 1 {
-        let s = road.segment_length(before + 1);
-        least_grade_row(road, before + 1, s, row, rows);
-        greatest_grade_row(road, before + 1, s, row, rows);
+        least_grade_row(road, before + 1, row, rows);
+        greatest_grade_row(road, before + 1, row, rows);
     }
 }
 
-/// The row that asks a least height at a station.
-fn least_height_row(road: &Road, station: i64, row: &mut FormRow, rows: &mut Rows<i64>)
+/// The station of a fixed point.
+fn point_station(road: &Road, point: usize) -> i64
     requires accepted { IsAccepted road.now }
-    requires station { IsOnKnots road.now station }
+    requires point { IsNumber point (fixed_count road.now) }
+    ensures value { result ≡ (fixed_point road.now point).station }
+    ensures on_knots { IsOnKnots road.now result }
+{
+    road.fixed_point(point).station
+}
+
+/// The row that asks a least height at a fixed point.
+fn least_height_row(road: &Road, point: usize, row: &mut FormRow, rows: &mut Rows<i64>)
+    requires accepted { IsAccepted road.now }
+    requires point { IsNumber point (fixed_count road.now) }
     requires free { length rows.old.rows < rows.old.room }
     requires width { column_count road.now ≤ rows.old.width }
-    ensures { Grew rows.old rows.new (terms_of road.now (station_entries road.now station) ∷ []) }
+    ensures { Grew rows.old rows.new (terms_of road.now (station_entries road.now (fixed_point road.now point).station) ∷ []) }
 {
+    let station = point_station(road, point);
     let segment = road.segment_of(station);
     let s = road.steps_from(segment, station);
     row.clear();
@@ -178,14 +198,15 @@ fn least_height_row(road: &Road, station: i64, row: &mut FormRow, rows: &mut Row
     row.put(rows);
 }
 
-/// The row that asks a greatest height at a station.
-fn greatest_height_row(road: &Road, station: i64, row: &mut FormRow, rows: &mut Rows<i64>)
+/// The row that asks a greatest height at a fixed point.
+fn greatest_height_row(road: &Road, point: usize, row: &mut FormRow, rows: &mut Rows<i64>)
     requires accepted { IsAccepted road.now }
-    requires station { IsOnKnots road.now station }
+    requires point { IsNumber point (fixed_count road.now) }
     requires free { length rows.old.rows < rows.old.room }
     requires width { column_count road.now ≤ rows.old.width }
-    ensures { Grew rows.old rows.new (terms_of road.now (negated (station_entries road.now station)) ∷ []) }
+    ensures { Grew rows.old rows.new (terms_of road.now (negated (station_entries road.now (fixed_point road.now point).station)) ∷ []) }
 {
+    let station = point_station(road, point);
     let segment = road.segment_of(station);
     let s = road.steps_from(segment, station);
     row.clear();
@@ -208,8 +229,7 @@ pub(crate) fn fixed_rows(road: &Road, row: &mut FormRow, rows: &mut Rows<i64>)
     ensures { Grew rows.old rows.new (forms_terms road.now (fixed_forms road.now)) }
 {
     for before in 0..road.fixed.len() {
-        let station = road.fixed_point(before + 1).station;
-        least_height_row(road, station, row, rows);
-        greatest_height_row(road, station, row, rows);
+        least_height_row(road, before + 1, row, rows);
+        greatest_height_row(road, before + 1, row, rows);
     }
 }

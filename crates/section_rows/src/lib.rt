@@ -3,7 +3,11 @@
 #![tactic(auto)]
 
 mod heights;
+mod lines;
 mod numbers;
 mod ranges;
+mod rows;
+mod volumes;
 
 pub use ranges::Ranges;
+pub use rows::section_rows;

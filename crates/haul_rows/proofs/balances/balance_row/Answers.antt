@@ -47,7 +47,7 @@ put-requires-clause-fits c =
     let terms = whole_row road t i c.clear.new.self c.add_all.new.self c.add_brought.new.row c.clear.ensures c.add_all.ensures.terms c.add_brought.ensures.terms in
     rising_fits road (balance_form road t i).entries c.add_brought.new.row c.args.rows.now.width terms
     (balance_row_rises road t i (pos 1) (neg_ℤ (pos 1)) (pos 1) (neg_ℤ (pos 1)) (neg_ℤ (pos 1)) (pos 1) (brought road i)
-      c.requires.accepted.well_formed.counted c.requires.stage c.requires.section)
+    c.requires.accepted.well_formed.counted c.requires.stage c.requires.section)
     c.requires.width
 
 pub returns : goal.returns

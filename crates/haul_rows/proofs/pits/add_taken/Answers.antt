@@ -27,7 +27,7 @@ loop-before-preserved c =
     let at = c.loop-before.before in
     let fits : FitsSigned w64 c.taken.result = search rules in
     let step : c.add.new.self ≡ c.loop-before.row ++ term_in (column_number road (Access (at + 1) c.args.stage)) (taken road c.args.pit (at + 1)) =
-        rw c.taken.ensures at (simp to_z-of_z at c.add.ensures.terms) in
+    rw c.taken.ensures at (simp to_z-of_z at c.add.ensures.terms) in
     record {
       terms = terms_step road (λ q. (Access q c.args.stage, taken road c.args.pit q)) at c.args.row.now c.loop-before.row c.add.new.self c.loop-before.invariant.terms step;
       few = omega (arith, c.add.ensures.few);
