@@ -1,0 +1,3 @@
+pub mod LeadingSlabs
+pub mod RootBox
+pub mod Cover

@@ -3,6 +3,7 @@
 use Rattle.std.specs.Prelude.{◌≡◌, ℕ, ◌+◌, ◌≤◌, length, map, replicate, ℤ, pos, neg_ℤ, ◌<ℤ◌}
 use Rattle.road_types.specs.Numbered.{numbered, IsNumber}
 use Rattle.road_types.specs.Volumes.{thickness_of}
+use Rattle.road_types.specs.Accepted.{IsSlabTable}
 use Rattle.road_types.specs.Breakpoints.{IsBreakpoint}
 use Rattle.road_types.specs.Road.{section, section_count, block_count}
 use Rattle.road_types.specs.declared.road.Road.{Road}
@@ -49,6 +50,11 @@ pub record IsInside (road : Road) (plan : Plan) (box : BoxRange) : Type 0 where
   pub opens : (k : ℕ) → IsNumber k (block_count road) → IsAmong (opening_range box k) (opening plan k)
   pub heights : (i : ℕ) → IsNumber i (section_count road)
       → IsWithin (height_range box i).0 (height_range box i).1 plan.den (offset_of road plan i)
+
+-- the section's slab tables are as in an accepted road
+pub record HasTables (s : Section) : Type 0 where
+  pub cut : IsSlabTable s.cut
+  pub fill : IsSlabTable s.fill
 
 -- from the bottom of a section's cut to the top of its fill
 abbrev pub whole_range : Section → ℤ × ℤ

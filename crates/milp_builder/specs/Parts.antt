@@ -1,10 +1,11 @@
 -- A box is split into two: at an opening stage of a block, or at an offset of a section.
-use Rattle.std.specs.Prelude.{◌≡◌, ℕ, ◌+◌, ◌-◌, ◌≤◌, ◌<◌, Option, Some, None, slice_set, ℤ, ◌<ℤ◌}
+use Rattle.std.specs.Prelude.{◌≡◌, ℕ, ◌+◌, ◌-◌, ◌≤◌, ◌<◌, ◌⊎◌, Option, Some, None, slice_set, ℤ, ◌<ℤ◌}
 use Rattle.road_types.specs.Numbered.{IsNumber}
 use Rattle.road_types.specs.Breakpoints.{IsBreakpoint}
 use Rattle.road_types.specs.Road.{section, section_count, block_count}
 use Rattle.road_types.specs.declared.road.Road.{Road}
-use Rattle.milp_builder.specs.Boxes.{opening_range, height_range}
+use Rattle.plan_rules.specs.declared.plan.Plan.{Plan}
+use Rattle.milp_builder.specs.Boxes.{opening_range, height_range, IsBoxOf, IsInside}
 use Rattle.milp_builder.specs.declared.boxes.BoxRange.{BoxRange}
 use Rattle.milp_builder.specs.declared.boxes.Split.{Split}
 use Rattle.milp_builder.specs.declared.boxes.Split.TheVariants.{Removal, Height}
@@ -49,3 +50,9 @@ second_part box (Height i at) = with_height_range box i (at, (height_range box i
 abbrev pub AreParts : Road → BoxRange → Split → Option (BoxRange × BoxRange) → Type 0
 AreParts road box split None = ¬ IsSplitOf road box split
 AreParts road box split (Some parts) = IsSplitOf road box split × (parts ≡ (first_part box split, second_part box split))
+
+-- two boxes of the road such that each plan inside the box is inside one of them or both
+pub record Covers (road : Road) (box first second : BoxRange) : Type 0 where
+  pub first_fits : IsBoxOf road first
+  pub second_fits : IsBoxOf road second
+  pub each : (plan : Plan) → IsInside road plan box → IsInside road plan first ⊎ IsInside road plan second

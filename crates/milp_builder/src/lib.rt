@@ -2,5 +2,10 @@
 #![tactic(auto)]
 
 mod boxes;
+mod breakpoints;
+mod root;
+mod splits;
 
 pub use boxes::{BoxRange, Split};
+pub use root::root_box;
+pub use splits::parts;
