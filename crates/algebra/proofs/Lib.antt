@@ -2,4 +2,5 @@ pub mod Products
 pub mod Order
 pub mod Magnitudes
 pub mod SumsLemmas
+pub mod ListsLemmas
 mod Examples

@@ -1,27 +1,26 @@
--- The rules of a plan, by rule, stage and place. A place is kept where the rule holds there; a plan is admissible where
--- every place of every rule is kept.
+-- The rules of a plan, by rule, stage and place: limits, continuity, fixed points, volumes, caps, flows, blocks. A place is kept
+-- where the rule holds there; a plan of the road is admissible where every place of every rule is kept.
 use Rattle.std.specs.Prelude.{◌≡◌, ℕ, zero, suc, Bool, true, false, ◌+◌, ◌-◌, ◌<◌, ◌≤◌, ◌==◌, nat_le, ◌&&◌, if◌then◌else◌, ℤ, pos, neg_ℤ, ◌+ℤ◌, ◌-ℤ◌, ◌*ℤ◌, ◌≤ℤ◌}
 use Rattle.algebra.specs.Sums.{sum_to}
 use Rattle.road_types.specs.Numbered.{IsNumber}
-use Rattle.road_types.specs.Heights.{height_along, segment_at, segment_start, segment_length}
+use Rattle.road_types.specs.Heights.{height_along, grade_along, segment_at, steps_along, segment_length}
 use Rattle.road_types.specs.Volumes.{net_volume, thickness_of}
-use Rattle.road_types.specs.Road.{section, hop, fixed_point, pit, access, block, section_count, segment_count, fixed_count, pit_count, access_count, block_count}
+use Rattle.road_types.specs.Road.{section, hop, fixed_point, pit, access, block, section_count, segment_count, fixed_count, pit_count, access_count, block_count, serves}
 use Rattle.road_types.specs.declared.road.Road.{Road}
 use Rattle.road_types.specs.declared.road.PitKind.{PitKind}
 use Rattle.road_types.specs.declared.road.PitKind.TheVariants.{Borrow, Waste}
 use Rattle.plan_rules.specs.declared.plan.Plan.{Plan}
 use Rattle.plan_rules.specs.declared.verdict.Rule.{Rule}
 use Rattle.plan_rules.specs.declared.verdict.Rule.TheVariants.{P1, P2, P3, P4, P5, P6, P7, P8, P9}
-use Rattle.plan_rules.specs.Plans.{piece_of, amount, opening}
+use Rattle.plan_rules.specs.Plans.{IsPlanOf, piece_of, amount, opening}
 
 -- ---- heights and offsets
 
 -- the plan's height at a station: of the first segment that ends there or after it
 abbrev pub height_at : Road → Plan → ℤ → ℤ
 height_at road plan station =
-    let g = segment_at road.knots station in
-    let p = piece_of plan g in
-    height_along p.a p.b p.c (station -ℤ segment_start road.knots g)
+    let p = piece_of plan (segment_at road.knots station) in
+    height_along p.a p.b p.c (steps_along road.knots station)
 
 -- how far the plan lies above the ground at section i
 abbrev pub offset_of : Road → Plan → ℕ → ℤ
@@ -49,7 +48,7 @@ abbrev pub end_height : Road → Plan → ℕ → ℤ
 end_height road plan g = let p = piece_of plan g in height_along p.a p.b p.c (segment_length road.knots g)
 
 abbrev pub end_grade : Road → Plan → ℕ → ℤ
-end_grade road plan g = let p = piece_of plan g in p.b +ℤ (pos 2 *ℤ p.c) *ℤ segment_length road.knots g
+end_grade road plan g = let p = piece_of plan g in grade_along p.b p.c (segment_length road.knots g)
 
 -- the next segment begins with the height and the grade with which segment g ends
 pub record IsContinuous (road : Road) (plan : Plan) (g : ℕ) : Type 0 where
@@ -128,19 +127,10 @@ KeepsCaps road plan (suc t) place = IsAmountCapped road plan (suc t) place
 
 -- ---- flows
 
--- both borrow, or both waste
-abbrev pub same_kind : PitKind → PitKind → Bool
-same_kind Borrow Borrow = true
-same_kind Borrow Waste = false
-same_kind Waste Borrow = false
-same_kind Waste Waste = true
-
 -- the amount on access road q in stage t, where it stands at section i and its pit is of this kind
 abbrev pub access_share : Road → Plan → PitKind → ℕ → ℕ → ℕ → ℤ
 access_share road plan kind t i q =
-    if ((access road q).section == i) && same_kind kind (pit road (access road q).pit).kind
-    then amount plan.roads t q
-    else pos 0
+    if serves road kind i q then amount plan.roads t q else pos 0
 
 abbrev pub borrowed_in : Road → Plan → ℕ → ℕ → ℤ
 borrowed_in road plan t i = sum_to (access_share road plan Borrow t i) (access_count road)
@@ -156,11 +146,17 @@ hauled_in plan t i = amount plan.right t (i - 1) +ℤ amount plan.left t i
 abbrev pub hauled_out : Plan → ℕ → ℕ → ℤ
 hauled_out plan t i = amount plan.right t i +ℤ amount plan.left t (i - 1)
 
--- what comes to section i in stage t equals what leaves it
+-- what is cut at section i in stage t, hauled in and borrowed
+abbrev pub earth_in : Road → Plan → ℕ → ℕ → ℤ
+earth_in road plan t i = (amount plan.cut t i +ℤ hauled_in plan t i) +ℤ borrowed_in road plan t i
+
+-- what is filled there, hauled out and wasted
+abbrev pub earth_out : Road → Plan → ℕ → ℕ → ℤ
+earth_out road plan t i = (amount plan.fill t i +ℤ hauled_out plan t i) +ℤ wasted_out road plan t i
+
+-- the two sides are equal
 abbrev pub IsBalanced : Road → Plan → ℕ → ℕ → Type 0
-IsBalanced road plan t i =
-    (amount plan.cut t i +ℤ hauled_in plan t i) +ℤ borrowed_in road plan t i
-    ≡ (amount plan.fill t i +ℤ hauled_out plan t i) +ℤ wasted_out road plan t i
+IsBalanced road plan t i = earth_in road plan t i ≡ earth_out road plan t i
 
 -- ---- blocks
 
@@ -212,8 +208,9 @@ place_count road P9 stage = at_each_stage road stage (block_count road)
 abbrev pub IsPlace : Road → Rule → ℕ → ℕ → Type 0
 IsPlace road rule stage place = IsNumber place (place_count road rule stage)
 
--- every place of every rule is kept
+-- a plan of the road, with every place of every rule kept
 pub record IsAdmissible (road : Road) (plan : Plan) : Type 0 where
+  pub is_plan : IsPlanOf road plan
   pub keeps : (rule : Rule) (stage place : ℕ) → IsPlace road rule stage place → Keeps road plan rule stage place
 
 -- a place of a rule that isn't kept
@@ -222,20 +219,20 @@ pub record IsBroken (road : Road) (plan : Plan) (rule : Rule) (stage place : ℕ
   pub not_kept : ¬ Keeps road plan rule stage place
 
 -- the number of a rule
-abbrev pub number_of : Rule → ℕ
-number_of P1 = 1
-number_of P2 = 2
-number_of P3 = 3
-number_of P4 = 4
-number_of P5 = 5
-number_of P6 = 6
-number_of P7 = 7
-number_of P8 = 8
-number_of P9 = 9
+abbrev pub rule_number : Rule → ℕ
+rule_number P1 = 1
+rule_number P2 = 2
+rule_number P3 = 3
+rule_number P4 = 4
+rule_number P5 = 5
+rule_number P6 = 6
+rule_number P7 = 7
+rule_number P8 = 8
+rule_number P9 = 9
 
 -- a broken place before which everything is kept: of lesser rules, of lesser stages of its rule, lesser places of its stage
 pub record IsFirstBroken (road : Road) (plan : Plan) (rule : Rule) (stage place : ℕ) : Type 0 where
   pub broken : IsBroken road plan rule stage place
-  pub lesser_rules : (r : Rule) (s p : ℕ) → number_of r < number_of rule → IsPlace road r s p → Keeps road plan r s p
+  pub lesser_rules : (r : Rule) (s p : ℕ) → rule_number r < rule_number rule → IsPlace road r s p → Keeps road plan r s p
   pub lesser_stages : (s p : ℕ) → s < stage → IsPlace road rule s p → Keeps road plan rule s p
   pub lesser_places : (p : ℕ) → p < place → IsPlace road rule stage p → Keeps road plan rule stage p

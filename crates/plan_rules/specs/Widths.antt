@@ -7,7 +7,7 @@ use Rattle.plan_rules.specs.declared.plan.Piece.{Piece}
 use Rattle.plan_rules.specs.declared.plan.Plan.{Plan}
 use Rattle.plan_rules.specs.declared.verdict.Rule.{Rule}
 use Rattle.plan_rules.specs.Plans.{amount}
-use Rattle.plan_rules.specs.Rules.{IsPlace, Keeps, number_of}
+use Rattle.plan_rules.specs.Rules.{IsPlace, Keeps, rule_number}
 
 -- a denominator of a plan that fits
 pub record IsDenominator (den : ℤ) : Type 0 where
@@ -22,7 +22,7 @@ pub record IsSmallPiece (p : Piece) : Type 0 where
 
 -- all rules before one are kept
 pub record KeepsLesser (road : Road) (plan : Plan) (rule : Rule) : Type 0 where
-  pub each : (r : Rule) (s p : ℕ) → number_of r < number_of rule → IsPlace road r s p → Keeps road plan r s p
+  pub each : (r : Rule) (s p : ℕ) → rule_number r < rule_number rule → IsPlace road r s p → Keeps road plan r s p
 
 -- a litre amount within its cap, over a denominator
 abbrev pub IsPayableAmount : ℤ → Type 0

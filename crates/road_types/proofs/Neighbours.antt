@@ -3,7 +3,7 @@ use Rattle.std.specs.Prelude.{Bool, ◌&&◌}
 use Rattle.std.specs.List.{list_all}
 use Rattle.std.proofs.Common.{◌≡◌, ℕ, zero, suc, ◌+◌, ◌<◌, ◌≤◌, true, false, List, [], ◌∷◌, length, get_or, drop, ap, sym, subst, ◌∙◌, refl, arith}
 use Rattle.std.proofs.lemmas.List.{drop_more, drop_all}
-use Rattle.road_types.specs.Faults.{all_neighbours, all_pairs}
+use Rattle.road_types.specs.RecordFaults.{all_neighbours, all_pairs}
 
 pub all_neighbours-cons : {A : Type 0} (R : A → A → Bool) (x y : A) (rest : List A) → all_neighbours R (x ∷ y ∷ rest) ≡ (R x y && all_neighbours R (y ∷ rest))
 unfolding all_neighbours

@@ -3,5 +3,15 @@ pub mod Heights
 pub mod Volumes
 pub mod Breakpoints
 pub mod Road
+pub mod Ranges
+pub mod Limits
+pub mod RecordFaults
+pub mod WellFormed
+pub mod Columns
+pub mod Forms
+pub mod Lines
+pub mod SectionForms
+pub mod HaulForms
+pub mod RoadPrograms
 pub mod Faults
 pub mod Accepted

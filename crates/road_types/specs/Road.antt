@@ -1,12 +1,14 @@
--- What stands on a road by its number, which begins at 1. Past the end stands an entry without any amount or cost.
-use Rattle.std.specs.Prelude.{ℕ, ◌-◌, [], length, ℤ, pos}
+-- What stands on a road by its number, which begins at 1: sections, hops, fixed points, pits, access roads, blocks, and how many
+-- there are. Past the end stands an entry without any amount or cost. Also an access road's unit cost, and whom it serves.
+use Rattle.std.specs.Prelude.{ℕ, ◌-◌, ◌==◌, Bool, true, false, ◌&&◌, [], length, ℤ, pos, ◌+ℤ◌}
 use Rattle.road_types.specs.Numbered.{numbered}
 use Rattle.road_types.specs.declared.road.Road.{Road}
 use Rattle.road_types.specs.declared.road.Section.{Section}
 use Rattle.road_types.specs.declared.road.Hop.{Hop}
 use Rattle.road_types.specs.declared.road.Fixed.{Fixed}
 use Rattle.road_types.specs.declared.road.Pit.{Pit}
-use Rattle.road_types.specs.declared.road.PitKind.TheVariants.{Borrow}
+use Rattle.road_types.specs.declared.road.PitKind.{PitKind}
+use Rattle.road_types.specs.declared.road.PitKind.TheVariants.{Borrow, Waste}
 use Rattle.road_types.specs.declared.road.Access.{Access}
 use Rattle.road_types.specs.declared.road.Block.{Block}
 
@@ -72,3 +74,18 @@ access_count road = length road.roads
 
 abbrev pub block_count : Road → ℕ
 block_count road = length road.blocks
+
+-- a litre on access road q costs what the road and its pit cost
+abbrev pub access_unit_cost : Road → ℕ → ℤ
+access_unit_cost road q = (access road q).cost +ℤ (pit road (access road q).pit).cost
+
+-- both borrow, or both waste
+abbrev pub same_kind : PitKind → PitKind → Bool
+same_kind Borrow Borrow = true
+same_kind Borrow Waste = false
+same_kind Waste Borrow = false
+same_kind Waste Waste = true
+
+-- access road q stands at section i, and its pit is of this kind
+abbrev pub serves : Road → PitKind → ℕ → ℕ → Bool
+serves road kind i q = ((access road q).section == i) && same_kind kind (pit road (access road q).pit).kind

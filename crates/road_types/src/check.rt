@@ -8,12 +8,25 @@ use crate::{Fault, Road};
 
 impl Road {
     ghost use Rattle.std.specs.Prelude.{◌≡◌};
-    ghost use Rattle.road_types.specs.Faults.{road_fault};
+    ghost use Rattle.road_types.specs.RecordFaults.{record_fault};
+    ghost use Rattle.road_types.specs.Faults.{size_fault, road_fault};
 
-    /// The fault of the first rule that the record breaks, of F6 to F15 in this order; none where it keeps all.
+    /// The fault of the first rule that the road breaks, of F6 to F15 over the record in this order, then of its size; none where
+    /// it keeps all.
     #[tactic(auto, unfolding(crate::specs::Faults::road_fault))]
     pub fn check(&self) -> Option<Fault>
         ensures { result ≡ road_fault self.now }
+    {
+        match self.record_fault() {
+            Some(fault) => Some(fault),
+            None => self.size_fault(),
+        }
+    }
+
+    /// The fault of the first rule that the record breaks, of F6 to F15 in this order; none where it keeps all.
+    #[tactic(auto, unfolding(crate::specs::RecordFaults::record_fault))]
+    fn record_fault(&self) -> Option<Fault>
+        ensures { result ≡ record_fault self.now }
     {
         if !ranges::is_in_range(self) {
             return Some(Fault::F6);
@@ -45,6 +58,14 @@ impl Road {
         if !counts::budgets_hold(self) {
             return Some(Fault::F15);
         }
+        None
+    }
+
+    /// The fault of a road whose size is past a limit.
+    #[tactic(auto, unfolding(crate::specs::Faults::size_fault))]
+    fn size_fault(&self) -> Option<Fault>
+        ensures { result ≡ size_fault self.now }
+    {
         None
     }
 }

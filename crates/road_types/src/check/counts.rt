@@ -1,9 +1,9 @@
 // Numbers of entries, and budgets.
 ghost use Rattle.std.specs.Prelude.{◌≡◌, length};
 ghost use Rattle.std.specs.List.{list_all};
-ghost use Rattle.road_types.specs.Faults.{has_few_slabs, stretch_counts_hold, counts_hold, budgets_hold};
+ghost use Rattle.road_types.specs.RecordFaults.{has_few_slabs, stretch_counts_hold, counts_hold, budgets_hold};
 
-use super::ranges::is_within;
+use super::ranges::is_between;
 use crate::{Road, Section};
 
 fn has_few_slabs(s: &Section) -> bool
@@ -29,7 +29,7 @@ fn stretch_counts_hold(road: &Road) -> bool
 }
 
 /// Whether every list has a number of entries within its limit, the hops one less than the sections.
-#[tactic(auto, unfolding(crate::specs::Faults::counts_hold))]
+#[tactic(auto, unfolding(crate::specs::RecordFaults::counts_hold))]
 pub(super) fn counts_hold(road: &Road) -> bool
     ensures { result ≡ counts_hold road.now }
 {
@@ -41,9 +41,9 @@ pub(super) fn counts_hold(road: &Road) -> bool
 }
 
 /// Whether both budgets are within their ranges.
-#[tactic(auto, unfolding(crate::specs::Faults::budgets_hold))]
+#[tactic(auto, unfolding(crate::specs::RecordFaults::budgets_hold))]
 pub(super) fn budgets_hold(road: &Road) -> bool
     ensures { result ≡ budgets_hold road.now }
 {
-    is_within(1, 4999, road.nodes) && is_within(1, 20_000, road.pivots)
+    is_between(1, 4999, road.nodes) && is_between(1, 20_000, road.pivots)
 }

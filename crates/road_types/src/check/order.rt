@@ -1,9 +1,9 @@
 // Numbers that rise, lows below highs, and stations between the first and the last knot.
 ghost use Rattle.std.specs.Prelude.{◌≡◌, ◌+◌, ◌≤◌, length, int_lt};
 ghost use Rattle.std.specs.List.{list_all};
-ghost use Rattle.road_types.specs.Faults.{rises, comes_before, stations_rise, first_of, last_of, is_on_knots, sections_on_knots, knots_hold, low_holds, lows_hold};
+ghost use Rattle.road_types.specs.RecordFaults.{rises, comes_before, stations_rise, first_of, last_of, is_on_knots, sections_on_knots, knots_hold, low_holds, lows_hold};
 
-use super::ranges::is_within;
+use super::ranges::is_between;
 use crate::{Fixed, Road, Section};
 
 fn is_less(x: &i64, y: &i64) -> bool
@@ -58,7 +58,7 @@ fn last_of(xs: &[i64]) -> i64
 pub(super) fn is_on_knots(knots: &[i64], x: i64) -> bool
     ensures { result ≡ is_on_knots knots.now x }
 {
-    is_within(first_of(knots), last_of(knots), x)
+    is_between(first_of(knots), last_of(knots), x)
 }
 
 fn sections_on_knots(knots: &[i64], sections: &[Section]) -> bool
@@ -68,7 +68,7 @@ fn sections_on_knots(knots: &[i64], sections: &[Section]) -> bool
 }
 
 /// Whether there are two knots or more, which rise, with the sections between the first and the last.
-#[tactic(auto, unfolding(crate::specs::Faults::knots_hold))]
+#[tactic(auto, unfolding(crate::specs::RecordFaults::knots_hold))]
 pub(super) fn knots_hold(road: &Road) -> bool
     ensures { result ≡ knots_hold road.now }
 {
@@ -84,7 +84,7 @@ fn low_points_hold(points: &[Fixed]) -> bool
 }
 
 /// Whether no low is above its high.
-#[tactic(auto, unfolding(crate::specs::Faults::lows_hold))]
+#[tactic(auto, unfolding(crate::specs::RecordFaults::lows_hold))]
 pub(super) fn lows_hold(road: &Road) -> bool
     ensures { result ≡ lows_hold road.now }
 {

@@ -1,13 +1,13 @@
 // Numbers within their ranges, and names of their form.
 ghost use Rattle.std.specs.Prelude.{◌≡◌};
 ghost use Rattle.std.specs.List.{list_all};
-ghost use Rattle.road_types.specs.Faults.{is_within, is_station, is_height, is_grade, is_curve, is_measure, is_cost, is_cap, is_step, is_stages, is_name_byte, is_name, slab_in_range, section_in_range, hop_in_range, fixed_in_range, pit_in_range, access_in_range, block_in_range, prices_in_range, grades_in_range, limits_in_range, scales_in_range, lists_in_range, is_in_range};
+ghost use Rattle.road_types.specs.RecordFaults.{is_between, is_station, is_height, is_grade, is_curve, is_measure, is_cost, is_cap, is_step, is_stages, is_name_byte, is_name, slab_in_range, section_in_range, hop_in_range, fixed_in_range, pit_in_range, access_in_range, block_in_range, prices_in_range, grades_in_range, limits_in_range, scales_in_range, lists_in_range, is_in_range};
 
 use crate::{Access, Block, Fixed, Hop, Pit, Road, Section, Slab};
 
 /// Whether low <= x <= high.
-pub(super) fn is_within(low: i64, high: i64, x: i64) -> bool
-    ensures { result ≡ is_within low high x }
+pub(super) fn is_between(low: i64, high: i64, x: i64) -> bool
+    ensures { result ≡ is_between low high x }
 {
     low <= x && x <= high
 }
@@ -15,49 +15,49 @@ pub(super) fn is_within(low: i64, high: i64, x: i64) -> bool
 fn is_station(x: i64) -> bool
     ensures { result ≡ is_station x }
 {
-    is_within(0, 100_000, x)
+    is_between(0, 100_000, x)
 }
 
 fn is_height(x: i64) -> bool
     ensures { result ≡ is_height x }
 {
-    is_within(-10_000_000, 10_000_000, x)
+    is_between(-10_000_000, 10_000_000, x)
 }
 
 fn is_grade(x: i64) -> bool
     ensures { result ≡ is_grade x }
 {
-    is_within(-1_000_000, 1_000_000, x)
+    is_between(-1_000_000, 1_000_000, x)
 }
 
 fn is_curve(x: i64) -> bool
     ensures { result ≡ is_curve x }
 {
-    is_within(0, 1_000_000, x)
+    is_between(0, 1_000_000, x)
 }
 
 fn is_measure(x: i64) -> bool
     ensures { result ≡ is_measure x }
 {
-    is_within(-10_000_000, 10_000_000, x)
+    is_between(-10_000_000, 10_000_000, x)
 }
 
 fn is_cost(x: i64) -> bool
     ensures { result ≡ is_cost x }
 {
-    is_within(0, 1_000_000, x)
+    is_between(0, 1_000_000, x)
 }
 
 fn is_cap(x: i64) -> bool
     ensures { result ≡ is_cap x }
 {
-    is_within(0, 100_000_000_000_000, x)
+    is_between(0, 100_000_000_000_000, x)
 }
 
 fn is_step(x: i64) -> bool
     ensures { result ≡ is_step x }
 {
-    is_within(1, 1000, x)
+    is_between(1, 1000, x)
 }
 
 fn is_stages(n: usize) -> bool
@@ -211,7 +211,7 @@ fn lists_in_range(road: &Road) -> bool
 }
 
 /// Whether every number of the record is within its range and every name of its form.
-#[tactic(auto, unfolding(crate::specs::Faults::is_in_range))]
+#[tactic(auto, unfolding(crate::specs::RecordFaults::is_in_range))]
 pub(super) fn is_in_range(road: &Road) -> bool
     ensures { result ≡ is_in_range road.now }
 {

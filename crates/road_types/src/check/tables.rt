@@ -1,7 +1,7 @@
 // Slab tables, names that differ, and numbers of pits and sections that are there.
 ghost use Rattle.std.specs.Prelude.{◌≡◌, length};
 ghost use Rattle.std.specs.List.{list_all};
-ghost use Rattle.road_types.specs.Faults.{is_solid, is_table, has_tables, differs_from, names_differ, is_number, has_pit, pits_hold, stands_at_section, block_at_section, point_on_knots, places_hold, stands_elsewhere, blocks_differ};
+ghost use Rattle.road_types.specs.RecordFaults.{is_solid, is_table, has_tables, differs_from, names_differ, is_number, has_pit, pits_hold, stands_at_section, block_at_section, point_on_knots, places_hold, stands_elsewhere, blocks_differ};
 
 use super::order::is_on_knots;
 use crate::{Access, Block, Fixed, Pit, Road, Section, Slab};
@@ -61,8 +61,8 @@ fn names_differ(pits: &[Pit]) -> bool
     true
 }
 
-fn is_number(count: usize, i: usize) -> bool
-    ensures { result ≡ is_number count i }
+fn is_number(i: usize, count: usize) -> bool
+    ensures { result ≡ is_number i count }
 {
     1 <= i && i <= count
 }
@@ -70,11 +70,11 @@ fn is_number(count: usize, i: usize) -> bool
 fn roads_have_pits(pits: usize, roads: &[Access]) -> bool
     ensures { result ≡ list_all (has_pit pits) roads.now }
 {
-    roads.iter().all(|a| is_number(pits, a.pit))
+    roads.iter().all(|a| is_number(a.pit, pits))
 }
 
 /// Whether the pits' names differ and each access road has a pit.
-#[tactic(auto, unfolding(crate::specs::Faults::pits_hold))]
+#[tactic(auto, unfolding(crate::specs::RecordFaults::pits_hold))]
 pub(super) fn pits_hold(road: &Road) -> bool
     ensures { result ≡ pits_hold road.now }
 {
@@ -84,13 +84,13 @@ pub(super) fn pits_hold(road: &Road) -> bool
 fn roads_have_sections(sections: usize, roads: &[Access]) -> bool
     ensures { result ≡ list_all (stands_at_section sections) roads.now }
 {
-    roads.iter().all(|a| is_number(sections, a.section))
+    roads.iter().all(|a| is_number(a.section, sections))
 }
 
 fn blocks_have_sections(sections: usize, blocks: &[Block]) -> bool
     ensures { result ≡ list_all (block_at_section sections) blocks.now }
 {
-    blocks.iter().all(|b| is_number(sections, b.section))
+    blocks.iter().all(|b| is_number(b.section, sections))
 }
 
 fn points_on_knots(knots: &[i64], points: &[Fixed]) -> bool
@@ -100,7 +100,7 @@ fn points_on_knots(knots: &[i64], points: &[Fixed]) -> bool
 }
 
 /// Whether access roads and blocks stand at sections, and fixed points between the first and the last knot.
-#[tactic(auto, unfolding(crate::specs::Faults::places_hold))]
+#[tactic(auto, unfolding(crate::specs::RecordFaults::places_hold))]
 pub(super) fn places_hold(road: &Road) -> bool
     ensures { result ≡ places_hold road.now }
 {

@@ -1,5 +1,5 @@
 use Rattle.std.proofs.Common.{◌≡◌, ◌-◌, ◌≤◌, drop}
-use Rattle.road_types.specs.Faults.{rises}
+use Rattle.road_types.specs.RecordFaults.{rises}
 use Rattle.road_types.proofs.check.order.rises.Given as goal
 
 abbrev pub invariant-loop-i : goal.invariant-loop-i

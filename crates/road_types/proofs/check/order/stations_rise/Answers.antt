@@ -1,5 +1,5 @@
 use Rattle.std.proofs.Common.{◌≡◌, ◌+◌, ◌-◌, sym, ◌∙◌, arith}
-use Rattle.road_types.specs.Faults.{comes_before}
+use Rattle.road_types.specs.RecordFaults.{comes_before}
 use Rattle.road_types.proofs.Neighbours.{all_neighbours-last, neighbours_fail, neighbours_go}
 use Rattle.road_types.proofs.check.order.stations_rise.Goals as goal
 

@@ -1,5 +1,5 @@
 use Rattle.std.proofs.Common.{◌≡◌, ◌-◌, ◌≤◌, drop}
-use Rattle.road_types.specs.Faults.{stations_rise}
+use Rattle.road_types.specs.RecordFaults.{stations_rise}
 use Rattle.road_types.proofs.check.order.stations_rise.Given as goal
 
 abbrev pub invariant-loop-i : goal.invariant-loop-i

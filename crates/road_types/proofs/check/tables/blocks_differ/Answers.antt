@@ -1,6 +1,6 @@
 use Rattle.std.proofs.Common.{◌+◌, sym, ◌∙◌, arith}
 use Rattle.std.proofs.lemmas.List.{take_rest}
-use Rattle.road_types.specs.Faults.{stands_elsewhere}
+use Rattle.road_types.specs.RecordFaults.{stands_elsewhere}
 use Rattle.road_types.proofs.Neighbours.{all_pairs-end, pairs_fail, pairs_go}
 use Rattle.road_types.proofs.check.tables.blocks_differ.Goals as goal
 

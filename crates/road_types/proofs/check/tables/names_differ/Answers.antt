@@ -1,6 +1,6 @@
 use Rattle.std.proofs.Common.{◌+◌, sym, ◌∙◌, arith}
 use Rattle.std.proofs.lemmas.List.{take_rest}
-use Rattle.road_types.specs.Faults.{differs_from}
+use Rattle.road_types.specs.RecordFaults.{differs_from}
 use Rattle.road_types.proofs.Neighbours.{all_pairs-end, pairs_fail, pairs_go}
 use Rattle.road_types.proofs.check.tables.names_differ.Goals as goal
 

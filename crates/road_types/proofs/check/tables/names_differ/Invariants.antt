@@ -1,5 +1,5 @@
 use Rattle.std.proofs.Common.{◌≡◌, drop}
-use Rattle.road_types.specs.Faults.{names_differ}
+use Rattle.road_types.specs.RecordFaults.{names_differ}
 use Rattle.road_types.proofs.check.tables.names_differ.Given as goal
 
 abbrev pub invariant-loop-i : goal.invariant-loop-i

@@ -1,6 +1,0 @@
-use Rattle.std.proofs.Common.{◌≡◌, ◌+◌, drop}
-use Rattle.road_types.specs.Heights.{knots_before}
-use Rattle.plan_rules.proofs.heights.knots_before.Given as goal
-
-abbrev pub invariant-loop-before : goal.invariant-loop-before
-invariant-loop-before l = l.before + knots_before l.station (drop l.before l.knots) ≡ knots_before l.station l.knots
