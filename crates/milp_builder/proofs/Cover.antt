@@ -9,6 +9,7 @@ use Rattle.road_types.specs.declared.road.Road.{Road}
 use Rattle.road_types.specs.declared.road.Section.{Section}
 use Rattle.road_types.specs.Breakpoints.{IsBreakpoint}
 use Rattle.road_types.specs.Numbered.{numbered, IsNumber}
+use Rattle.road_types.specs.Ranges.{height_range, IsHeightRange}
 use Rattle.road_types.specs.Road.{section, section_count, block_count}
 use Rattle.plan_rules.specs.declared.plan.Plan.{Plan}
 use Rattle.plan_rules.specs.Plans.{opening}
@@ -16,7 +17,7 @@ use Rattle.plan_rules.specs.Rules.{IsWithin, offset_of}
 use Rattle.milp_builder.specs.declared.boxes.BoxRange.{BoxRange}
 use Rattle.milp_builder.specs.declared.boxes.Split.{Split}
 use Rattle.milp_builder.specs.declared.boxes.Split.TheVariants.{Removal, Height}
-use Rattle.milp_builder.specs.Boxes.{opening_range, height_range, IsOpeningRange, IsHeightRange, IsBoxOf, IsAmong, IsInside}
+use Rattle.milp_builder.specs.Boxes.{opening_range, IsOpeningRange, IsBoxOf, IsAmong, IsInside}
 use Rattle.milp_builder.specs.Parts.{SplitsOpenings, SplitsOffsets, IsSplitOf, with_opening_range, with_height_range, first_part, second_part, AreParts, Covers}
 
 -- what holds of the new entry at its number, and of the old entries at all others, holds at each number
@@ -33,7 +34,7 @@ numbered_set P other xs (suc k) x n here each (suc j) m =
     (λ (e : j ≡ k → ⊥). subst (P (suc j)) (sym (get_or-set_other xs k j x other e)) (each (suc j) m))
     (cases_eq j k))
 
-number_along : (i m n : ℕ) → m ≡ n → IsNumber i m → IsNumber i n
+pub number_along : (i m n : ℕ) → m ≡ n → IsNumber i m → IsNumber i n
 number_along i m n e h = record { from_one = h.from_one; at_most = omega (arith, h.at_most) }
 
 -- ---- a box with one other range
@@ -58,8 +59,8 @@ module _ (road : Road) (box : BoxRange) (fits : IsBoxOf road box) where
       numbered_set P (0, 0) box.opens k range (of_block k n) new (λ i l. old i (block_of i l)) j (of_block j m)
 
   other_heights : (P : ℕ → ℤ × ℤ → Type 0) (i : ℕ) (range : ℤ × ℤ) → IsNumber i (section_count road) → P i range
-      → ((j : ℕ) → IsNumber j (section_count road) → P j (height_range box j))
-      → (j : ℕ) → IsNumber j (section_count road) → P j (height_range (with_height_range box i range) j)
+      → ((j : ℕ) → IsNumber j (section_count road) → P j (height_range box.heights j))
+      → (j : ℕ) → IsNumber j (section_count road) → P j (height_range (with_height_range box i range).heights j)
   other_heights P i range n new old j m =
       numbered_set P (pos 0, pos 0) box.heights i range (of_section i n) new (λ h l. old h (section_of h l)) j (of_section j m)
 
@@ -113,7 +114,7 @@ module _ (road : Road) (box : BoxRange) (fits : IsBoxOf road box) where
   height_covers : (i : ℕ) (at : ℤ) → SplitsOffsets road box i at → Covers road box (first_part box (Height i at)) (second_part box (Height i at))
   height_covers i at s =
       let was = fits.heights i s.number in
-      let range = height_range box i in
+      let range = height_range box.heights i in
       record {
         first_fits = heights_fit i (range.0, at) s.number (record { low = was.low; high = s.breakpoint; ordered = s.above });
         second_fits = heights_fit i (at, range.1) s.number (record { low = s.breakpoint; high = was.high; ordered = s.below });
@@ -141,7 +142,7 @@ pub number_from_test : (r : Bool) (i m n : ℕ) → r ≡ true → (IsTrue r ↔
 number_from_test r i m n t h e = number_along i m n e (h.0 t)
 
 pub splits_from_tests : (road : Road) (box : BoxRange) (i : ℕ) (at : ℤ) (s : Section) (breakpoint inside r : Bool) → IsNumber i (section_count road) → s ≡ section road i
-    → (IsTrue breakpoint ↔ IsBreakpoint s at) → (IsTrue inside ↔ (((height_range box i).0 <ℤ at) × (at <ℤ (height_range box i).1))) → r ≡ (breakpoint && inside)
+    → (IsTrue breakpoint ↔ IsBreakpoint s at) → (IsTrue inside ↔ (((height_range box.heights i).0 <ℤ at) × (at <ℤ (height_range box.heights i).1))) → r ≡ (breakpoint && inside)
     → IsTrue r ↔ SplitsOffsets road box i at
 splits_from_tests road box i at s true true true n e b w h = (λ _. record { number = n; breakpoint = subst (λ (x : Section). IsBreakpoint x at) e (b.0 refl); above = (w.0 refl).0; below = (w.0 refl).1 }, λ _. refl)
 splits_from_tests road box i at s true true false n e b w h = cc

@@ -5,7 +5,7 @@ use Rattle.std.proofs.lemmas.Int.{ints}
 use Rattle.std.proofs.lemmas.List.{take_all, take_more}
 use Rattle.road_types.specs.declared.road.Slab.{Slab}
 use Rattle.road_types.specs.Numbered.{numbered, IsNumber}
-use Rattle.road_types.specs.Accepted.{IsSlabTable, IsSolidSlab}
+use Rattle.road_types.specs.WellFormed.{IsSlabTable, IsSolidSlab}
 use Rattle.road_types.specs.Volumes.{thickness_of}
 use Rattle.road_types.specs.Breakpoints.{leading_thickness}
 

@@ -1,51 +1,52 @@
 -- The root box of a road fits it, and every admissible plan is inside it.
 use Rattle.std.proofs.Common.{◌≡◌, ℕ, zero, suc, ◌+◌, ◌≤◌, ◌<◌, length, map, get_or, arith, sym, subst, ap, inl, inr}
-use Rattle.std.specs.Prelude.{replicate, ℤ, pos, neg_ℤ, ◌<ℤ◌}
+use Rattle.std.specs.Prelude.{ℤ, pos, neg_ℤ}
 use Rattle.std.specs.List.{All}
 use Rattle.std.proofs.lemmas.Int.{ints}
 use Rattle.std.proofs.lemmas.List.Elements.{All-from_get_or}
-use Rattle.std.proofs.lemmas.List.{length-map, length-replicate, get_or-replicate, get_or-map}
+use Rattle.std.proofs.lemmas.List.{length-map, get_or-map}
 use Rattle.road_types.specs.declared.road.Road.{Road}
 use Rattle.road_types.specs.declared.road.Section.{Section}
 use Rattle.road_types.specs.Numbered.{IsNumber}
-use Rattle.road_types.specs.Road.{section, section_count, block_count, no_section}
+use Rattle.road_types.specs.Road.{section, section_count, block_count, no_section, no_block}
 use Rattle.road_types.specs.Accepted.{IsAccepted}
-use Rattle.road_types.specs.Breakpoints.{IsBreakpoint}
+use Rattle.road_types.specs.Ranges.{height_range, IsHeightRange, whole_range, whole_opening}
 use Rattle.plan_rules.specs.declared.plan.Plan.{Plan}
 use Rattle.plan_rules.specs.declared.verdict.Rule.TheVariants.{P5, P8}
 use Rattle.plan_rules.specs.Plans.{opening}
 use Rattle.plan_rules.specs.Rules.{IsAdmissible, Keeps, place_count, HasItsVolume, IsOpening, IsWithin, offset_of}
-use Rattle.milp_builder.specs.Boxes.{opening_range, height_range, IsOpeningRange, IsHeightRange, IsBoxOf, IsAmong, IsInside, HasTables, whole_range, root_box}
+use Rattle.volume_lines.specs.SlabTables.{HasSlabTables}
+use Rattle.milp_builder.specs.Boxes.{opening_range, IsOpeningRange, IsBoxOf, IsAmong, IsInside, root_box}
 use Rattle.milp_builder.proofs.LeadingSlabs.{thickness_pos, leading_all}
 
 -- ---- the ranges of the root box
 
 root_openings : (road : Road) (k : ℕ) → IsNumber k (block_count road) → opening_range (root_box road) k ≡ (2, road.stages + 1)
 root_openings road zero n = absurd (omega (arith, n.from_one))
-root_openings road (suc k) n = get_or-replicate (block_count road) k (2, road.stages + 1) (0, 0) (omega (arith, n.at_most))
+root_openings road (suc k) n = get_or-map (λ block. whole_opening road) road.blocks k no_block (0, 0) (omega (arith, n.at_most))
 
-root_heights : (road : Road) (i : ℕ) → IsNumber i (section_count road) → height_range (root_box road) i ≡ whole_range (section road i)
+root_heights : (road : Road) (i : ℕ) → IsNumber i (section_count road) → height_range (root_box road).heights i ≡ whole_range (section road i)
 root_heights road zero n = absurd (omega (arith, n.from_one))
 root_heights road (suc i) n = get_or-map whole_range road.sections i no_section (pos 0, pos 0) (omega (arith, n.at_most))
 
 -- ---- the whole range of a section
 
-whole_is_range : (s : Section) → HasTables s → IsHeightRange s (whole_range s)
+whole_is_range : (s : Section) → HasSlabTables s → IsHeightRange s (whole_range s)
 whole_is_range s h = record {
   low = (length s.cut, inr (ap neg_ℤ (sym (leading_all s.cut (length s.cut) (omega arith)))));
   high = (length s.fill, inl (sym (leading_all s.fill (length s.fill) (omega arith))));
   ordered = omega (arith, ints, thickness_pos s.cut h.cut, thickness_pos s.fill h.fill);
 }
 
-pub tables_of : (road : Road) → IsAccepted road → (i : ℕ) → IsNumber i (section_count road) → HasTables (section road i)
-tables_of road a i n = record { cut = (a.sections i n).cut; fill = (a.sections i n).fill }
+pub tables_of : (road : Road) → IsAccepted road → (i : ℕ) → IsNumber i (section_count road) → HasSlabTables (section road i)
+tables_of road a i n = record { cut = (a.well_formed.sections i n).cut; fill = (a.well_formed.sections i n).fill }
 
 all_openings_are_some : (road : Road) → IsAccepted road → IsOpeningRange road (2, road.stages + 1)
-all_openings_are_some road a = record { from_two = omega arith; some = omega (arith, a.stages_from); at_most = omega arith }
+all_openings_are_some road a = record { from_two = omega arith; some = omega (arith, a.well_formed.counted.stages_from); at_most = omega arith }
 
 pub root_box_fits : (road : Road) → IsAccepted road → IsBoxOf road (root_box road)
 root_box_fits road a = record {
-  opens_count = length-replicate (block_count road) (2, road.stages + 1);
+  opens_count = length-map road.blocks (λ block. whole_opening road);
   heights_count = length-map road.sections whole_range;
   opens = λ k n. subst (λ (r : ℕ × ℕ). IsOpeningRange road r) (sym (root_openings road k n)) (all_openings_are_some road a);
   heights = λ i n. subst (λ (r : ℤ × ℤ). IsHeightRange (section road i) r) (sym (root_heights road i n)) (whole_is_range (section road i) (tables_of road a i n));
@@ -74,8 +75,8 @@ root_box_covers road plan h = record {
       (volume_of_admissible road plan h i n).range;
 }
 
-pub all_tables : (road : Road) → IsAccepted road → All HasTables road.sections
-all_tables road a = All-from_get_or HasTables road.sections no_section (λ i l. tables_of road a (suc i) (record { from_one = omega arith; at_most = omega arith }))
+pub all_tables : (road : Road) → IsAccepted road → All HasSlabTables road.sections
+all_tables road a = All-from_get_or HasSlabTables road.sections no_section (λ i l. tables_of road a (suc i) (record { from_one = omega arith; at_most = omega arith }))
 
-pub tables_at : (road : Road) → IsAccepted road → (i : ℕ) → IsNumber i (section_count road) → (s : Section) → s ≡ section road i → HasTables s
-tables_at road a i n s e = subst HasTables (sym e) (tables_of road a i n)
+pub tables_at : (road : Road) → IsAccepted road → (i : ℕ) → IsNumber i (section_count road) → (s : Section) → s ≡ section road i → HasSlabTables s
+tables_at road a i n s e = subst HasSlabTables (sym e) (tables_of road a i n)

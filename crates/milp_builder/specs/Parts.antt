@@ -2,10 +2,11 @@
 use Rattle.std.specs.Prelude.{◌≡◌, ℕ, ◌+◌, ◌-◌, ◌≤◌, ◌<◌, ◌⊎◌, Option, Some, None, slice_set, ℤ, ◌<ℤ◌}
 use Rattle.road_types.specs.Numbered.{IsNumber}
 use Rattle.road_types.specs.Breakpoints.{IsBreakpoint}
+use Rattle.road_types.specs.Ranges.{height_range}
 use Rattle.road_types.specs.Road.{section, section_count, block_count}
 use Rattle.road_types.specs.declared.road.Road.{Road}
 use Rattle.plan_rules.specs.declared.plan.Plan.{Plan}
-use Rattle.milp_builder.specs.Boxes.{opening_range, height_range, IsBoxOf, IsInside}
+use Rattle.milp_builder.specs.Boxes.{opening_range, IsBoxOf, IsInside}
 use Rattle.milp_builder.specs.declared.boxes.BoxRange.{BoxRange}
 use Rattle.milp_builder.specs.declared.boxes.Split.{Split}
 use Rattle.milp_builder.specs.declared.boxes.Split.TheVariants.{Removal, Height}
@@ -20,8 +21,8 @@ pub record SplitsOpenings (road : Road) (box : BoxRange) (k stage : ℕ) : Type 
 pub record SplitsOffsets (road : Road) (box : BoxRange) (i : ℕ) (at : ℤ) : Type 0 where
   pub number : IsNumber i (section_count road)
   pub breakpoint : IsBreakpoint (section road i) at
-  pub above : (height_range box i).0 <ℤ at
-  pub below : at <ℤ (height_range box i).1
+  pub above : (height_range box.heights i).0 <ℤ at
+  pub below : at <ℤ (height_range box.heights i).1
 
 -- the box can be split so
 abbrev pub IsSplitOf : Road → BoxRange → Split → Type 0
@@ -39,12 +40,12 @@ with_height_range box i range = record box { heights = slice_set box.heights (i 
 -- the part with the openings up to the stage, or the offsets up to the breakpoint
 abbrev pub first_part : BoxRange → Split → BoxRange
 first_part box (Removal k stage) = with_opening_range box k ((opening_range box k).0, stage)
-first_part box (Height i at) = with_height_range box i ((height_range box i).0, at)
+first_part box (Height i at) = with_height_range box i ((height_range box.heights i).0, at)
 
 -- the part with the openings after the stage, or the offsets from the breakpoint on
 abbrev pub second_part : BoxRange → Split → BoxRange
 second_part box (Removal k stage) = with_opening_range box k (stage + 1, (opening_range box k).1)
-second_part box (Height i at) = with_height_range box i (at, (height_range box i).1)
+second_part box (Height i at) = with_height_range box i (at, (height_range box.heights i).1)
 
 -- both parts where the box can be split so, and nothing where it can't
 abbrev pub AreParts : Road → BoxRange → Split → Option (BoxRange × BoxRange) → Type 0

@@ -1,15 +1,14 @@
-// Thicknesses of leading slabs, and the offsets at which a section's slab changes.
-ghost use Rattle.std.specs.Prelude.{◌≡◌, ◌↔◌, ℕ, IsTrue, ◌||◌, pos, ◌≤ℤ◌};
-ghost use Rattle.road_types.specs.Accepted.{IsSlabTable};
-ghost use Rattle.road_types.specs.Volumes.{thickness_of};
-ghost use Rattle.milp_builder.specs.Boxes.{HasTables};
+// The offsets at which a section's slab changes.
+ghost use Rattle.std.specs.Prelude.{◌≡◌, ◌↔◌, ℕ, IsTrue, ◌||◌};
+ghost use Rattle.road_types.specs.WellFormed.{IsSlabTable};
+ghost use Rattle.volume_lines.specs.SlabTables.{HasSlabTables};
 ghost use Rattle.road_types.specs.Breakpoints.{leading_thickness, IsBreakpoint};
 
 use road_types::{Section, Slab};
 
 /// Whether an offset is a breakpoint of the section.
 pub fn is_breakpoint(section: &Section, offset: i64) -> bool
-    requires { HasTables section.now }
+    requires { HasSlabTables section.now }
     ensures { IsTrue result ↔ IsBreakpoint section.now offset }
 {
     let height = i128::from(offset);
@@ -39,18 +38,4 @@ fn is_leading_thickness(slabs: &[Slab], thickness: i128) -> bool
         depth += i128::from(slab.thick);
     }
     depth == thickness
-}
-
-/// The thickness of all slabs together, in mm.
-pub fn thickness_of(slabs: &[Slab]) -> i64
-    requires { IsSlabTable slabs.now }
-    ensures value { result ≡ thickness_of slabs.now }
-    ensures from { pos 0 ≤ℤ result }
-    ensures to { result ≤ℤ pos 40000000 }
-{
-    let mut thickness = 0;
-    for slab in slabs {
-        thickness += slab.thick;
-    }
-    thickness
 }

@@ -5,11 +5,12 @@ ghost use Rattle.road_types.specs.Faults.{road_fault};
 ghost use Rattle.road_types.specs.Accepted.{IsAccepted};
 ghost use Rattle.plan_rules.specs.Rules.{IsAdmissible};
 ghost use Rattle.plan_rules.specs.declared.plan.Plan.{Plan};
-ghost use Rattle.milp_builder.specs.Boxes.{root_box, whole_range, IsBoxOf, IsInside, HasTables};
+ghost use Rattle.road_types.specs.Ranges.{whole_range};
+ghost use Rattle.volume_lines.specs.SlabTables.{HasSlabTables};
+ghost use Rattle.milp_builder.specs.Boxes.{root_box, IsBoxOf, IsInside};
 
 use crate::boxes::BoxRange;
-use crate::breakpoints::thickness_of;
-use road_types::{Listed, Road, Section};
+use road_types::{Block, Listed, Road, Section, thickness_of};
 use std::alloc::{AllocError, Global};
 
 /// The box with all openings and all offsets within the slabs: every admissible plan is inside it.
@@ -27,7 +28,7 @@ fn whole_box(alloc: Global, road: &Road) -> Result<BoxRange, AllocError>
     requires { IsAccepted road.now }
     ensures { IfOk result (λ range. range ≡ root_box road.now) }
 {
-    let opens = all_openings(alloc, road.stages, road.blocks.len())?;
+    let opens = all_openings(alloc, road.stages, road.blocks.as_slice())?;
     let heights = whole_ranges(alloc, road.sections.as_slice())?;
     Ok(BoxRange {
         opens: Listed::new(opens),
@@ -35,22 +36,18 @@ fn whole_box(alloc: Global, road: &Road) -> Result<BoxRange, AllocError>
     })
 }
 
-/// Every opening stage, for each of so many blocks.
-fn all_openings(alloc: Global, stages: usize, blocks: usize) -> Result<Vec<(u8, u8)>, AllocError>
+/// Every opening stage, for each block.
+fn all_openings(alloc: Global, stages: usize, blocks: &[Block]) -> Result<Vec<(u8, u8)>, AllocError>
     requires { stages ≤ 4 }
-    ensures { IfOk result (λ opens. opens.items ≡ replicate blocks (2, stages + 1)) }
+    ensures { IfOk result (λ opens. opens.items ≡ map (λ block. (2, stages + 1)) blocks.now) }
 {
     let never = stages as u8 + 1;
-    let mut opens = Vec::new(alloc);
-    for _ in 0..blocks {
-        opens.push((2, never))?;
-    }
-    Ok(opens)
+    blocks.iter().map(|_block| (2, never)).collect(alloc)
 }
 
 /// Every offset within the slabs, for each section.
 fn whole_ranges(alloc: Global, sections: &[Section]) -> Result<Vec<(i64, i64)>, AllocError>
-    requires { All HasTables sections.now }
+    requires { All HasSlabTables sections.now }
     ensures { IfOk result (λ heights. heights.items ≡ map whole_range sections.now) }
 {
     let mut heights = Vec::new(alloc);
@@ -62,7 +59,7 @@ fn whole_ranges(alloc: Global, sections: &[Section]) -> Result<Vec<(i64, i64)>, 
 
 /// From the bottom of a section's cut to the top of its fill, in mm.
 fn whole_range(section: &Section) -> (i64, i64)
-    requires { HasTables section.now }
+    requires { HasSlabTables section.now }
     ensures { result ≡ whole_range section.now }
 {
     (

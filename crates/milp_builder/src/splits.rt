@@ -3,13 +3,13 @@ ghost use Rattle.std.specs.Prelude.{◌≡◌, ◌↔◌, ◌≤◌, ◌<◌, �
 ghost use Rattle.road_types.specs.Numbered.{IsNumber};
 ghost use Rattle.road_types.specs.Faults.{road_fault};
 ghost use Rattle.road_types.specs.Accepted.{IsAccepted};
-ghost use Rattle.road_types.specs.Road.{section_count, section};
-ghost use Rattle.milp_builder.specs.Boxes.{IsBoxOf, opening_range, height_range};
+ghost use Rattle.road_types.specs.Ranges.{height_range};
+ghost use Rattle.milp_builder.specs.Boxes.{IsBoxOf, opening_range};
 ghost use Rattle.milp_builder.specs.Parts.{AreParts, Covers, SplitsOpenings, SplitsOffsets, with_opening_range, with_height_range};
 
 use crate::boxes::{BoxRange, Split};
 use crate::breakpoints::is_breakpoint;
-use road_types::{Listed, Road, Section};
+use road_types::{Listed, Road};
 use std::alloc::{AllocError, Global};
 
 /// The two parts of a box of the road; none where the block or section has no such number, a part would have no opening,
@@ -98,19 +98,12 @@ fn splits_offsets(road: &Road, range: &BoxRange, section: usize, at: i64) -> boo
 {
     if is_number(section, road.sections.len()) {
         both(
-            is_breakpoint(section_at(road, section), at),
+            is_breakpoint(road.section(section), at),
             parts_offsets(height_range(range, section), at),
         )
     } else {
         false
     }
-}
-
-fn section_at(road: &Road, number: usize) -> &Section
-    requires { IsNumber number (section_count road.now) }
-    ensures { result.now ≡ section road.now number }
-{
-    &road.sections.as_slice()[number - 1]
 }
 
 fn parts_offsets(range: (i64, i64), at: i64) -> bool
@@ -142,7 +135,7 @@ fn opening_range(range: &BoxRange, block: usize) -> (u8, u8)
 /// The range of offsets of a section, in mm.
 fn height_range(range: &BoxRange, section: usize) -> (i64, i64)
     requires { IsNumber section (length range.now.heights) }
-    ensures { result ≡ height_range range.now section }
+    ensures { result ≡ height_range range.now.heights section }
 {
     range.heights.as_slice()[section - 1]
 }

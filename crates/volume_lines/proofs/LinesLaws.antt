@@ -16,6 +16,7 @@ use Rattle.road_types.specs.Volumes.{thickness_of, net_volume}
 use Rattle.road_types.specs.Breakpoints.{IsBreakpoint, leading_thickness}
 use Rattle.road_types.specs.Ranges.{IsHeightRange}
 use Rattle.road_types.specs.Lines.{areas_between, slopes_between, least_area, greatest_area, volume_at, Lines, lines_through, lines_over}
+use Rattle.volume_lines.specs.SlabTables.{HasSlabTables}
 use Rattle.volume_lines.proofs.SlabRises.{AreThick, AreSlopesWithin, IsSlopeWithin, IsRise}
 use Rattle.volume_lines.proofs.NetRises.{net_rises, net_scales}
 use Rattle.volume_lines.proofs.Slopes.{IsBetweenSlabs, areas_within, above_slabs, leading_between, leading_from_zero, leading_to_thickness, slopes_within}
@@ -46,11 +47,6 @@ thick_table slabs h = each_thick slabs h.solid
 
 area_table : (slabs : List Slab) → IsSlabTable slabs → HaveAreas slabs
 area_table slabs h = each_area slabs h.solid
-
--- a section's two tables are as in an accepted road
-pub record HasSlabTables (s : Section) : Type 0 where
-  pub cut : IsSlabTable s.cut
-  pub fill : IsSlabTable s.fill
 
 -- ---- lines over plain numbers
 

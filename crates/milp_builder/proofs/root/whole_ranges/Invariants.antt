@@ -1,5 +1,5 @@
 use Rattle.std.proofs.Common.{◌≡◌, map, take}
-use Rattle.milp_builder.specs.Boxes.{whole_range}
+use Rattle.road_types.specs.Ranges.{whole_range}
 use Rattle.milp_builder.proofs.root.whole_ranges.Given as goal
 
 abbrev pub invariant-loop-section : goal.invariant-loop-section

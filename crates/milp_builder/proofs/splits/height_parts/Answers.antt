@@ -1,10 +1,16 @@
 use Rattle.std.specs.Prelude.{FitsSigned}
-use Rattle.std.proofs.Common.{rules, ap, refl, ◌∙◌}
+use Rattle.std.proofs.Common.{rules, ap, sym, refl, ◌∙◌, length}
 use Rattle.std.specs.Int.{w64}
 use Rattle.std.proofs.lemmas.Int.{to_z-of_z}
+use Rattle.road_types.specs.Road.{section_count}
 use Rattle.milp_builder.specs.Parts.{with_height_range}
-use Rattle.milp_builder.proofs.Cover.{pair_is}
+use Rattle.milp_builder.proofs.Cover.{pair_is, number_along}
 use Rattle.milp_builder.proofs.splits.height_parts.Goals as goal
+
+pub with_height_range-requires-2 : goal.with_height_range-requires-2
+with_height_range-requires-2 c =
+    let splits = c.if-not-splits_offsets.ensures.0 refl in
+    number_along c.args.section (section_count c.args.road.now) (length c.args.range.now.heights) (sym c.requires.fits.heights_count) splits.number
 
 pub returns : goal.returns
 returns c =

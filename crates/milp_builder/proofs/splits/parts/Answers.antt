@@ -4,7 +4,7 @@ use Rattle.std.proofs.Common.{rules, FitsSigned}
 use Rattle.std.specs.Int.{w64}
 use Rattle.std.proofs.lemmas.Int.{to_z-of_z}
 use Rattle.std.proofs.lemmas.Result.{IfOk-weaker}
-use Rattle.road_types.proofs.AcceptedRoad.{IsAccepted-from_check}
+use Rattle.road_types.proofs.AcceptedRoad.{IsAccepted-from_fault}
 use Rattle.milp_builder.specs.declared.boxes.BoxRange.{BoxRange}
 use Rattle.milp_builder.specs.declared.boxes.Split.TheVariants.{Removal, Height}
 use Rattle.milp_builder.specs.Parts.{AreParts, Covers}
@@ -12,10 +12,10 @@ use Rattle.milp_builder.proofs.Cover.{found_parts_cover}
 use Rattle.milp_builder.proofs.splits.parts.Goals as goal
 
 pub removal_parts-requires-clause-stages : goal.removal_parts-requires-clause-stages
-removal_parts-requires-clause-stages c = (IsAccepted-from_check c.args.road.now c.requires.accepted).stages_to
+removal_parts-requires-clause-stages c = (IsAccepted-from_fault c.args.road.now c.requires.accepted).well_formed.counted.stages_to
 
 pub height_parts-requires-clause-accepted : goal.height_parts-requires-clause-accepted
-height_parts-requires-clause-accepted c = IsAccepted-from_check c.args.road.now c.requires.accepted
+height_parts-requires-clause-accepted c = IsAccepted-from_fault c.args.road.now c.requires.accepted
 
 pub returns-in-Removal-clause-cover : goal.returns-in-Removal-clause-cover
 returns-in-Removal-clause-cover c =

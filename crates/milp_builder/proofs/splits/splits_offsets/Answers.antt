@@ -10,7 +10,7 @@ use Rattle.milp_builder.proofs.splits.splits_offsets.Goals as goal
 pub is_breakpoint-requires : goal.is_breakpoint-requires
 is_breakpoint-requires c =
     let n : IsNumber c.args.section (section_count c.args.road.now) = search rules in
-    tables_at c.args.road.now c.requires.accepted c.args.section n c.section_at.result.now c.section_at.ensures
+    tables_at c.args.road.now c.requires.accepted c.args.section n c.section.result.now c.section.ensures
 
 pub returns-then-is_number : goal.returns-then-is_number
 returns-then-is_number c =
@@ -24,12 +24,12 @@ returns-then-is_number c =
     c.args.range.now
     c.args.section
     c.args.at
-    c.section_at.result.now
+    c.section.result.now
     c.is_breakpoint.result
     c.parts_offsets.result
     c.both.result
     n
-    c.section_at.ensures
+    c.section.ensures
     (simp to_z-of_z at c.is_breakpoint.ensures)
     inside
     c.both.ensures
