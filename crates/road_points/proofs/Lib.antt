@@ -1,0 +1,3 @@
+pub mod FormValues
+pub mod FormGroups
+pub mod Shows

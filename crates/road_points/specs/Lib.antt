@@ -1,0 +1,2 @@
+pub mod PlanPoints
+pub mod Shown
