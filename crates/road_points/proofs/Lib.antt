@@ -1,3 +1,5 @@
 pub mod FormValues
 pub mod FormGroups
 pub mod Shows
+pub mod RowValues
+pub mod PlanFacts
