@@ -39,7 +39,7 @@ pub record OffsetsInside (road : Road) (plan : Plan) (heights : List (ℤ × ℤ
   pub each : (i : ℕ) → IsNumber i (section_count road) → IsWithin (height_range heights i).0 (height_range heights i).1 plan.den (offset_of road plan i)
 
 module _ (road : Road) (well : IsWellFormed road) (plan : Plan) (is_plan : IsPlanOf road plan) (facts : PlanFacts road plan) (f : Column → ℤ) where
-  section_forms_hold : (heights : List (ℤ × ℤ)) → AreHeightRanges road heights → OffsetsInside road plan heights
+  pub section_forms_hold : (heights : List (ℤ × ℤ)) → AreHeightRanges road heights → OffsetsInside road plan heights
       → ShowsPieces plan f → ShowsOffsets road plan f → ShowsAmounts plan f → SectionFormsHold road (lines_in road heights) f plan.den
   section_forms_hold heights ranges inside pieces offsets amounts = record {
     offset = λ i n. omega (arith, ints, offset_value plan f pieces road i, offsets.each i n);
@@ -116,7 +116,7 @@ module _ (road : Road) (well : IsWellFormed road) (plan : Plan) (is_plan : IsPla
       (λ (l : opening plan k ≤ t). inr (l, opened_from plan k t l))
       (cases_lt t (opening plan k))
 
-  haul_forms_hold : ShowsAmounts plan f → ShowsOpenings road plan f → HaulFormsHold road f plan.den
+  pub haul_forms_hold : ShowsAmounts plan f → ShowsOpenings road plan f → HaulFormsHold road f plan.den
   haul_forms_hold amounts openings = record {
     balance = λ t i s n. omega (arith, ints, balance_value road plan f amounts t i, facts.balance t i s n, int_mul_zero plan.den);
     pit = λ p n. let capped = facts.pit p n in omega (arith, ints, pit_value road plan f amounts p, capped, int_mul_neg plan.den (pit road p).capacity, int_mul_comm plan.den (pit road p).capacity);

@@ -6,3 +6,5 @@ pub mod PlanFacts
 pub mod RoadKinds
 pub mod PointShows
 pub mod FormsHold
+pub mod PointCost
+pub mod PlansArePoints
