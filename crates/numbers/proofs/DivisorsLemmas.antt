@@ -9,7 +9,8 @@ use Rattle.std.proofs.lemmas.Nat.Gcd.{IsGcd-swap, IsGcd-from_zero, IsGcd-from_su
 use Rattle.std.proofs.lemmas.Bool.{cases_lt}
 use Rattle.std.proofs.lemmas.Int.{ints, unsigned_abs-mul, quot-rem, quot_is, fits_signed_from_abs}
 use Rattle.algebra.proofs.Products.{int_mul_assoc, int_mul_add, int_mul_neg, int_mul_comm}
-use Rattle.numbers.specs.Divisors.{Divides, IsGreatestCommonDivisor, IsLeastCommonMultiple}
+use Rattle.numbers.specs.Divisors.{Divides, IsGreatestCommonDivisor}
+use Rattle.numbers.specs.inside.LowestTerms.{IsLeastCommonMultiple}
 
 -- ---- naturals
 
@@ -50,6 +51,9 @@ scaled (suc n) (suc a) (suc b) h =
           IsGcd-from_sub (k * suc a) (k * suc b) (k * s.0) (mul-le-mul_left k (omega arith)) (subst (λ x. IsGcd x (k * suc b) (k * s.0)) e (s.2 k)),
     ))
     (cases_lt a b)
+
+pub has_gcd : (a b : ℕ) → (g : ℕ) × IsGcd a b g
+has_gcd a b = let s = scaled (a + b) a b (omega arith) in (s.0, s.1)
 
 -- what has no common divisor with a factor divides the other factor
 pub dvd_of_coprime : (t b n : ℕ) → IsGcd t b 1 → t ∣ n * b → t ∣ n

@@ -1,17 +1,18 @@
 -- Fractions in lowest terms: made from magnitudes and a sign, and one for each value.
-use Rattle.std.proofs.Common.{List, length, take, get_or, ◌+◌, ◌≡◌, ℕ, ◌*◌, ◌^◌, ◌≤◌, ◌<◌, ◌⊎◌, ⊎_elim, true, false, refl, arith, ap, sym, ◌∙◌, subst}
-use Rattle.std.specs.Prelude.{ℤ, pos, negsuc, ◌*ℤ◌, ◌<ℤ◌, ◌≢◌, unsigned_abs, int_lt}
+use Rattle.std.proofs.Common.{List, length, take, get_or, ◌+◌, ◌≡◌, ℕ, ◌*◌, ◌/◌, ◌^◌, ◌≤◌, ◌<◌, ◌⊎◌, ⊎_elim, true, false, refl, arith, ap, sym, ◌∙◌, subst}
+use Rattle.std.specs.Prelude.{ℤ, pos, negsuc, neg_ℤ, ◌*ℤ◌, ◌<ℤ◌, ◌≢◌, unsigned_abs, int_lt}
 use Rattle.std.specs.Int.{IsGcd, ◌∣◌}
 use Rattle.std.specs.List.{All}
 use Rattle.std.proofs.lemmas.List.{length-take, take-take, get_or-take}
 use Rattle.std.proofs.lemmas.List.Elements.{All-nil, All-take, All-more, All-weaker}
 use Rattle.std.proofs.lemmas.Int.{ints, unsigned_abs-mul}
-use Rattle.std.proofs.Math.Nat.{eq_of_mul-eq-mul_right, mul-pos, pos_of_dvd_of_pos, dvd-mul_right, dvd-mul_left}
+use Rattle.std.proofs.Math.Nat.{div-le_self, eq_of_mul-eq-mul_right, mul-pos, pos_of_dvd_of_pos, dvd-mul_right, dvd-mul_left}
 use Rattle.algebra.proofs.Products.{int_mul_assoc, int_mul_comm, int_neg_mul}
 use Rattle.algebra.proofs.Order.{int_eq_of_mul_right}
-use Rattle.numbers.specs.Divisors.{Divides, IsLeastCommonMultiple}
-use Rattle.numbers.specs.Fractions.{Fraction, IsLowest, IsReduced, HasValue, HasFraction, AreLowest, HasSign, IsLeastCommonDenominator}
-use Rattle.numbers.proofs.DivisorsLemmas.{one_divides, divides_trans, divides_of_dvd, dvd_of_divides, greatest_of_magnitudes, magnitudes_of_greatest, same_lowest}
+use Rattle.numbers.specs.Divisors.{Divides}
+use Rattle.numbers.specs.Fractions.{Fraction, IsLowest, IsReduced, HasValue, HasFraction, IsLeastCommonDenominator}
+use Rattle.numbers.specs.inside.LowestTerms.{AreLowest, HasSign, IsLeastCommonMultiple}
+use Rattle.numbers.proofs.DivisorsLemmas.{has_gcd, lowest_same, lowest_positive, lowest_gcd, one_divides, divides_trans, divides_of_dvd, dvd_of_divides, greatest_of_magnitudes, magnitudes_of_greatest, same_lowest}
 
 not_below : (n : ℕ) → int_lt (pos n) (pos 0) ≡ false
 not_below n = let e : false ≡ int_lt (pos n) (pos 0) = omega (arith, ints) in sym e
@@ -68,6 +69,35 @@ no_fraction t d z w h out found =
     let first = m.0 in
     let second = m.1 in
     ⊎_elim (λ (l : 2 ^ 127 ≤ t). absurd (omega arith)) (λ (l : 2 ^ 127 ≤ d). absurd (omega arith)) out
+
+-- a magnitude with the sign of a fraction
+signed_as : (t : ℕ) (z w : ℤ) → (n : ℤ) × HasSign n t z w
+signed_as t (pos z) (pos w) = (pos t, record { same = λ _. refl; other = λ h. absurd (h (not_below z ∙ sym (not_below w))) })
+signed_as t (negsuc z) (negsuc w) = (pos t, record { same = λ _. refl; other = λ h. absurd (h (below z ∙ sym (below w))) })
+signed_as t (pos z) (negsuc w) = (neg_ℤ (pos t), record { same = λ e. absurd (signs_differ z w e); other = λ _. refl })
+signed_as t (negsuc z) (pos w) = (neg_ℤ (pos t), record { same = λ e. absurd (signs_differ w z (sym e)); other = λ _. refl })
+
+-- a denominator that isn't 0 has lowest terms under every numerator, and these are in range where both numbers are
+pub has_fraction : (z w : ℤ) → w ≢ pos 0 → unsigned_abs z < 2 ^ 127 → unsigned_abs w < 2 ^ 127 → HasFraction z w
+has_fraction z w defined p q =
+    let a = unsigned_abs z in
+    let b = unsigned_abs w in
+    let some : 0 < b = omega (arith, ints) in
+    let r = has_gcd a b in
+    let g = r.0 in
+    let low : AreLowest (a / g) (b / g) z w = record {
+      defined = defined;
+      same = lowest_same a b g r.1 some;
+      lowest = lowest_gcd a b g r.1 some;
+      positive = lowest_positive a b g r.1 some;
+    } in
+    let n = signed_as (a / g) z w in
+    let fit_t : a / g < 2 ^ 127 = omega (arith, div-le_self a g) in
+    let fit_d : b / g < 2 ^ 127 = omega (arith, div-le_self b g) in (
+      record { num = n.0; den = pos (b / g) },
+      made_reduced (a / g) (b / g) z w n.0 (pos (b / g)) low n.1 refl fit_t fit_d,
+      made_value (a / g) (b / g) z w n.0 (pos (b / g)) low n.1 refl,
+    )
 
 -- two fractions in lowest terms of one value are one
 same_parts : (f g : Fraction) → f.num ≡ g.num → f.den ≡ g.den → f ≡ g

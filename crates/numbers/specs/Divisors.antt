@@ -1,6 +1,5 @@
 -- Divisibility among whole numbers: a divisor, and the greatest common divisor of two numbers.
-use Rattle.std.specs.Prelude.{◌≡◌, ℕ, ℤ, pos, ◌*ℤ◌, ◌≤ℤ◌}
-use Rattle.std.specs.Int.{◌∣◌}
+use Rattle.std.specs.Prelude.{◌≡◌, ℤ, pos, ◌*ℤ◌, ◌≤ℤ◌}
 
 -- n is a multiple of d
 abbrev pub Divides : ℤ → ℤ → Type 0
@@ -12,9 +11,3 @@ pub record IsGreatestCommonDivisor (a b g : ℤ) : Type 0 where
   pub divides_right : Divides g b
   pub greatest : (d : ℤ) → Divides d a → Divides d b → Divides d g
   pub not_negative : pos 0 ≤ℤ g
-
--- a multiple of both that divides every common multiple
-pub record IsLeastCommonMultiple (a b m : ℕ) : Type 0 where
-  pub left : a ∣ m
-  pub right : b ∣ m
-  pub least : (k : ℕ) → a ∣ k → b ∣ k → m ∣ k

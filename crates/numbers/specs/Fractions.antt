@@ -1,6 +1,5 @@
 -- Fractions of whole numbers in lowest terms, their text, and the least common multiple of denominators.
-use Rattle.std.specs.Prelude.{◌≡◌, ◌≢◌, ℕ, ◌*◌, ◌^◌, ◌<◌, ℤ, pos, neg_ℤ, int_lt, ◌*ℤ◌, ◌≤ℤ◌, List, ◌++◌, All, codes, unsigned_abs}
-use Rattle.std.specs.Int.{IsGcd}
+use Rattle.std.specs.Prelude.{◌≡◌, ◌≢◌, ℕ, ◌^◌, ◌<◌, ℤ, pos, ◌*ℤ◌, ◌≤ℤ◌, List, ◌++◌, All, codes, unsigned_abs}
 use Rattle.std.specs.Fmt.{signed_decimal}
 use Rattle.numbers.specs.Divisors.{Divides, IsGreatestCommonDivisor}
 
@@ -28,18 +27,6 @@ pub record HasValue (f : Fraction) (num den : ℤ) : Type 0 where
 -- den isn't 0 and num/den has lowest terms in range
 abbrev pub HasFraction : ℤ → ℤ → Type 0
 HasFraction num den = (f : Fraction) × IsReduced f × HasValue f num den
-
--- t/d are the lowest terms of the magnitudes of z and w, where w isn't 0
-pub record AreLowest (t d : ℕ) (z w : ℤ) : Type 0 where
-  pub defined : w ≢ pos 0
-  pub same : t * unsigned_abs w ≡ unsigned_abs z * d
-  pub lowest : IsGcd t d 1
-  pub positive : 0 < d
-
--- n is the magnitude t with the sign of z/w
-pub record HasSign (n : ℤ) (t : ℕ) (z w : ℤ) : Type 0 where
-  pub same : int_lt z (pos 0) ≡ int_lt w (pos 0) → n ≡ pos t
-  pub other : int_lt z (pos 0) ≢ int_lt w (pos 0) → n ≡ neg_ℤ (pos t)
 
 -- the text NUM/DEN in canonical decimals
 abbrev pub fraction_text : Fraction → List ℕ

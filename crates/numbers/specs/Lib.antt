@@ -1,2 +1,4 @@
 pub mod Divisors
 pub mod Fractions
+pub mod Products
+pub mod inside

@@ -1,6 +1,6 @@
 ghost use Rattle.std.specs.Prelude.{◌≡◌, ◌*◌, ℕ, ◌^◌, ◌≤◌, ◌<◌, max, IfSome, IsNone};
 ghost use Rattle.std.specs.Int.{IsGcd, ◌∣◌};
-ghost use Rattle.numbers.specs.Divisors.{IsLeastCommonMultiple};
+ghost use Rattle.numbers.specs.inside.LowestTerms.{IsLeastCommonMultiple};
 
 /// The greatest common divisor of two numbers below 2^64.
 pub(crate) fn gcd_word(a: u64, b: u64) -> u64

@@ -1,5 +1,6 @@
-ghost use Rattle.std.specs.Prelude.{◌≡◌, ◌↔◌, ℕ, ◌≢◌, ◌<◌, ◌^◌, ℤ, pos, ◌≤ℤ◌, ◌<ℤ◌, IsSome, IsNone, IfSome, IfOk, string_bytes};
-ghost use Rattle.numbers.specs.Fractions.{AreLowest, HasSign, IsLeastCommonDenominator};
+ghost use Rattle.std.specs.Prelude.{◌≡◌, ◌↔◌, ℕ, ◌≢◌, ◌<◌, ◌^◌, ℤ, pos, ◌≤ℤ◌, ◌<ℤ◌, IsSome, IsNone, IfSome, IfOk, string_bytes, unsigned_abs};
+ghost use Rattle.numbers.specs.Fractions.{IsLeastCommonDenominator};
+ghost use Rattle.numbers.specs.inside.LowestTerms.{AreLowest, HasSign};
 
 use crate::divisors::{lowest_terms, multiple_within};
 use std::alloc::{AllocError, Global};
@@ -30,6 +31,7 @@ impl Frac {
     /// The value `num/den`; `None` exactly where `den` is 0 or a number of the lowest terms has a magnitude above 2^127 - 1.
     pub fn new(num: i128, den: i128) -> Option<Frac>
         ensures some { IsSome result ↔ HasFraction num den }
+        ensures in_range { den ≢ pos 0 → unsigned_abs num < 2 ^ 127 → unsigned_abs den < 2 ^ 127 → IsSome result }
         ensures value { IfSome result (λ f. HasValue f num den) }
         ensures reduced { IfSome result IsReduced }
         ensures one { IfSome result

@@ -4,8 +4,7 @@
 
 mod divisors;
 mod fraction;
-#[cfg(test)]
-mod tests;
+mod products;
 mod w128;
 mod w64;
 mod whole;

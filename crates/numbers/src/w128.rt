@@ -2,6 +2,7 @@ ghost use Rattle.std.specs.Prelude.{◌≡◌, ◌↔◌, ℤ, ◌*ℤ◌, ◌^�
 ghost use Rattle.std.proofs.Common.{arith, rules};
 
 use crate::divisors::gcd_wide;
+use crate::products::{is_word, word_product};
 use crate::whole::Whole;
 use std::cmp::Ordering;
 
@@ -16,6 +17,14 @@ impl Whole for W128 {
     ghost meaning = { λ x. x.value };
 
     ghost greatest = { 2 ^ 127 - 1 };
+
+    fn zero() -> W128 {
+        W128 { value: 0 }
+    }
+
+    fn one() -> W128 {
+        W128 { value: 1 }
+    }
 
     fn of(v: i64) -> Option<W128> {
         Some(W128 { value: v as i128 })
@@ -50,6 +59,20 @@ impl Whole for W128 {
         W128::of_wide(self.value.checked_sub(other.value)?)
     }
 
+    fn product_difference(self, factor: W128, other: W128, by: W128) -> Option<W128> {
+        let left = self.times(factor)?;
+        let right = other.times(by)?;
+        left.minus(right)
+    }
+
+    fn negated(self) -> W128 {
+        W128 { value: -self.value }
+    }
+
+    fn sign(self) -> Ordering {
+        self.value.cmp(&0)
+    }
+
     fn exact_part(self, divisor: W128) -> W128 {
         W128 {
             value: self.value / divisor.value,
@@ -75,24 +98,3 @@ impl Whole for W128 {
 
     ghost below_wide = { Prim.search rules };
 }
-
-/// Whether the magnitude is below 2^63, so that a product of two such numbers is in range.
-fn is_word(v: i128) -> bool
-    ensures { IsTrue result ↔ (unsigned_abs v < 2 ^ 63) }
-{
-    -WORD < v && v < WORD
-}
-
-/// The product of two numbers of magnitude below 2^63.
-#[tactic(auto, using(crate::proofs::WholeLemmas::word_product_fits))]
-fn word_product(a: i128, b: i128) -> i128
-    requires left { unsigned_abs a < 2 ^ 63 }
-    requires right { unsigned_abs b < 2 ^ 63 }
-    ensures value { result ≡ a *ℤ b }
-    ensures in_range { unsigned_abs result < 2 ^ 127 }
-{
-    a * b
-}
-
-/// 2^63.
-const WORD: i128 = 9_223_372_036_854_775_808;

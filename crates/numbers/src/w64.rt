@@ -2,6 +2,7 @@ ghost use Rattle.std.specs.Prelude.{◌≡◌, ℤ, ◌^◌, ◌-◌, ◌≤◌,
 ghost use Rattle.std.proofs.Common.{arith, rules};
 
 use crate::divisors::gcd_word;
+use crate::products::word_product_difference;
 use crate::whole::Whole;
 use std::cmp::Ordering;
 
@@ -16,6 +17,14 @@ impl Whole for W64 {
     ghost meaning = { λ x. x.value };
 
     ghost greatest = { 2 ^ 63 - 1 };
+
+    fn zero() -> W64 {
+        W64 { value: 0 }
+    }
+
+    fn one() -> W64 {
+        W64 { value: 1 }
+    }
 
     fn of(v: i64) -> Option<W64> {
         if v == i64::MIN {
@@ -47,6 +56,18 @@ impl Whole for W64 {
 
     fn minus(self, other: W64) -> Option<W64> {
         W64::of_wide(self.wide() - other.wide())
+    }
+
+    fn product_difference(self, factor: W64, other: W64, by: W64) -> Option<W64> {
+        W64::of_wide(word_product_difference(self.wide(), factor.wide(), other.wide(), by.wide()))
+    }
+
+    fn negated(self) -> W64 {
+        W64 { value: -self.value }
+    }
+
+    fn sign(self) -> Ordering {
+        self.value.cmp(&0)
     }
 
     fn exact_part(self, divisor: W64) -> W64 {

@@ -1,6 +1,7 @@
-ghost use Rattle.std.specs.Prelude.{◌≡◌, ◌≢◌, ◌↔◌, ℕ, ◌^◌, ◌≤◌, ◌<◌, ℤ, pos, ◌+ℤ◌, ◌-ℤ◌, ◌*ℤ◌, IsSome, IfSome, unsigned_abs};
+ghost use Rattle.std.specs.Prelude.{◌≡◌, ◌≢◌, ◌↔◌, ℕ, ◌^◌, ◌≤◌, ◌<◌, ℤ, pos, neg_ℤ, ◌+ℤ◌, ◌-ℤ◌, ◌*ℤ◌, IsSome, IfSome, unsigned_abs};
 ghost use Rattle.std.specs.Ordering.{int_cmp};
 ghost use Rattle.numbers.specs.Divisors.{Divides, IsGreatestCommonDivisor};
+ghost use Rattle.numbers.specs.Products.{HasDifference};
 
 use std::cmp::Ordering;
 
@@ -12,6 +13,14 @@ pub trait Whole: Copy {
 
     // the greatest magnitude of the type
     ghost greatest: { ℕ };
+
+    /// The number 0.
+    fn zero() -> Self
+        ensures { meaning result ≡ pos 0 };
+
+    /// The number 1.
+    fn one() -> Self
+        ensures { meaning result ≡ pos 1 };
 
     /// The number `v`.
     fn of(v: i64) -> Option<Self>
@@ -42,6 +51,22 @@ pub trait Whole: Copy {
         ensures some { IsSome result ↔ (unsigned_abs (meaning self -ℤ meaning other) ≤ greatest) }
         ensures value { IfSome result (λ x. meaning x ≡ meaning self -ℤ meaning other) };
 
+    /// The difference of two products, `self * factor - other * by`; also `None` where a product is of
+    /// magnitude above 2^127 - 1, which none of two numbers of magnitude up to 2^63 is.
+    fn product_difference(self, factor: Self, other: Self, by: Self) -> Option<Self>
+        ensures some { IsSome result
+            ↔ HasDifference (meaning self) (meaning factor) (meaning other) (meaning by) greatest }
+        ensures value { IfSome result
+            (λ x. meaning x ≡ meaning self *ℤ meaning factor -ℤ meaning other *ℤ meaning by) };
+
+    /// The number of the other sign and the same magnitude.
+    fn negated(self) -> Self
+        ensures { meaning result ≡ neg_ℤ (meaning self) };
+
+    /// The sign: the order of the number to 0.
+    fn sign(self) -> Ordering
+        ensures { result ≡ int_cmp (meaning self) (pos 0) };
+
     /// The quotient by a divisor that isn't 0 and divides.
     fn exact_part(self, divisor: Self) -> Self
         requires nonzero { meaning divisor ≢ pos 0 }
@@ -56,11 +81,15 @@ pub trait Whole: Copy {
     fn order(self, other: Self) -> Ordering
         ensures { result ≡ int_cmp (meaning self) (meaning other) };
 
+    // a value stands for no number past the range
     ghost in_range: { (x : Self) → unsigned_abs (meaning x) ≤ greatest };
 
+    // no number of the range is missing
     ghost holds_all: { (z : ℤ) → unsigned_abs z ≤ greatest → (x : Self) × (meaning x ≡ z) };
 
+    // -1, 0 and 1 are numbers of every type
     ghost at_least_one: { 1 ≤ greatest };
 
+    // every number, and its magnitude, fits 128 bits
     ghost below_wide: { greatest < 2 ^ 127 };
 }

@@ -3,7 +3,8 @@ use Rattle.std.proofs.Common.{◌≡◌, ℕ, Bool, true, false, List, get_or, s
 use Rattle.std.specs.Bool.{OnTrue, OnFalse}
 use Rattle.std.specs.FinMap.{get, insert}
 use Rattle.std.proofs.lemmas.List.{get_or_default, set-get_or}
-use Rattle.outside.specs.Entry.{NamedFile, unused, room_with, files_of, rooms_of, IsFirst}
+use Rattle.outside.specs.inside.Entry.{NamedFile, unused, files_of, rooms_of, IsFirst}
+use Rattle.outside.specs.MemStore.{room_with}
 use Rattle.outside.proofs.EntryLemmas.{map_of-set, map_of-set_same, get-map_of_first}
 
 -- with a file, and the rest as it was

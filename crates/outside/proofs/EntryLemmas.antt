@@ -12,7 +12,7 @@ use Rattle.std.proofs.lemmas.Option.{none-some}
 use Rattle.std.proofs.lemmas.List.Sums.{fails_before_first}
 use Rattle.std.proofs.lemmas.List.{length_push, get_or_push}
 use Rattle.std.proofs.lemmas.List.Quantifiers.{position-Some}
-use Rattle.outside.specs.Entry.{NamedFile, unused, is_named, with_part, map_of, files_of, rooms_of, IsFirst, HasNone}
+use Rattle.outside.specs.inside.Entry.{NamedFile, unused, is_named, with_part, map_of, files_of, rooms_of, IsFirst, HasNone}
 
 abbrev Name : Type 0
 Name = List ℕ

@@ -1,7 +1,7 @@
 pub mod Calls
-pub mod Entry
 pub mod Faults
 pub mod Files
 pub mod MemSink
 pub mod MemStore
 pub mod Written
+pub mod inside

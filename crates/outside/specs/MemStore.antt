@@ -1,7 +1,8 @@
 -- What contracts see of a store in memory.
 --     MemoryStore      its files, the rooms made in it, its calls and its numbers of faults
+--     room_with room bytes      the room that stands once room for so many bytes was asked for
 --     FitsRoom rooms name bytes, LacksRoom rooms name bytes      room was made for the name, and the bytes fit it; or not
-use Rattle.std.specs.Prelude.{ℕ, ◌<◌, ◌≤◌, List, length, IsSomeAnd, MatchOption, ⊤, refl}
+use Rattle.std.specs.Prelude.{ℕ, ◌<◌, ◌≤◌, max, List, length, Option, unwrap_or, IsSomeAnd, MatchOption, ⊤, refl}
 use Rattle.std.specs.Coded.{Coded, code_by, coded×, coded_ℕ, coded_list}
 use Rattle.std.specs.Ordering.{nat_cmp}
 use Rattle.std.specs.Cmp.Lexicographic.{slice_cmp}
@@ -22,6 +23,10 @@ pub record MemoryStore : Type 0 where
   pub fails : List ℕ
   pub read_faults : ℕ
   pub write_faults : ℕ
+
+-- the room that stands once room for so many bytes was asked for
+abbrev pub room_with : Option ℕ → ℕ → ℕ
+room_with room bytes = max (unwrap_or room 0) bytes
 
 -- room was made for the name, and the bytes fit it
 abbrev pub FitsRoom : Rooms → List ℕ → List ℕ → Type 0

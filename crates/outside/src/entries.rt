@@ -3,7 +3,8 @@ ghost use Rattle.std.specs.Prelude.{◌≡◌, ◌<◌, IfOk, OnOk, OnErr, Match
 ghost use Rattle.std.specs.Bool.{OnTrue, OnFalse};
 ghost use Rattle.std.specs.FinMap.{get, insert};
 ghost use Rattle.std.specs.List.{position};
-ghost use Rattle.outside.specs.Entry.{files_of, rooms_of, room_with, is_named, IsFirst};
+ghost use Rattle.outside.specs.inside.Entry.{files_of, rooms_of, is_named, IsFirst};
+ghost use Rattle.outside.specs.MemStore.{room_with};
 ghost use Rattle.outside.specs.MemStore.{FitsRoom, LacksRoom};
 
 use crate::entry::Entry;

@@ -1,7 +1,8 @@
 // What a store in memory keeps of one name.
 ghost use Rattle.std.specs.Prelude.{◌≡◌, ◌≤◌, ◌<◌, Option, Some, None, length, IfOk, OnOk, OnErr, IsSomeAnd, MatchOption, ⊤};
 ghost use Rattle.std.specs.Bool.{OnTrue, OnFalse};
-ghost use Rattle.outside.specs.Entry.{NamedFile, unused, room_with, is_named};
+ghost use Rattle.outside.specs.inside.Entry.{NamedFile, unused, is_named};
+ghost use Rattle.outside.specs.MemStore.{room_with};
 
 use std::alloc::{AllocError, Global};
 use std::marker::Model;
@@ -17,7 +18,7 @@ pub(crate) struct Entry {
 
 impl Model for Entry {
     ghost use Rattle.std.specs.Prelude.{Some, None, IfSome, ◌≤◌, vec_capacity, if◌then◌else◌, string_bytes};
-    ghost use Rattle.outside.specs.Entry.{NamedFile};
+    ghost use Rattle.outside.specs.inside.Entry.{NamedFile};
 
     ghost Value = { NamedFile };
 

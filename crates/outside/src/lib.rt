@@ -17,8 +17,6 @@ pub use disk_store::DiskStore;
 pub use mem_sink::MemSink;
 pub use mem_store::MemStore;
 pub use out_sink::OutSink;
+pub use pieces::read_whole;
 pub use sink::{Sink, SinkFailed};
 pub use store::{Store, StoreErr};
-
-#[cfg(test)]
-mod tests;

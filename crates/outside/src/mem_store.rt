@@ -2,7 +2,7 @@
 ghost use Rattle.std.specs.Prelude.{◌≡◌, ◌⊎◌, ◌↔◌, ◌≤◌, take, Some, None, option_map, IfOk, OnOk, OnErr, IsOkUnless, IsErrOf};
 ghost use Rattle.std.specs.FinMap.{empty, insert, get};
 ghost use Rattle.outside.specs.Calls.{FailsNext, next_call};
-ghost use Rattle.outside.specs.Entry.{room_with};
+ghost use Rattle.outside.specs.MemStore.{room_with};
 ghost use Rattle.outside.specs.Faults.{one_more};
 ghost use Rattle.outside.specs.MemStore.{FitsRoom, LacksRoom};
 
@@ -25,7 +25,7 @@ pub struct MemStore {
 }
 
 impl Model for MemStore {
-    ghost use Rattle.outside.specs.Entry.{files_of, rooms_of};
+    ghost use Rattle.outside.specs.inside.Entry.{files_of, rooms_of};
     ghost use Rattle.outside.specs.MemStore.{MemoryStore, memory_store_code};
 
     ghost Value = { MemoryStore };

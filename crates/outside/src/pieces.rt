@@ -10,12 +10,8 @@ use std::io::{Read, Write};
 /// How many bytes one read asks for at most.
 const PIECE: usize = 4096;
 
-/// The first `most` bytes that the reader has left, or all where it has fewer.
-pub(crate) fn read_whole<R: Read>(
-    alloc: Global,
-    reader: &mut R,
-    most: usize,
-) -> Result<Vec<u8>, StoreErr>
+/// The first `most` bytes that the reader has left, or all where it has fewer. `Failed` where a read of it fails.
+pub fn read_whole<R: Read>(alloc: Global, reader: &mut R, most: usize) -> Result<Vec<u8>, StoreErr>
     ensures bytes { IfOk result
         (λ bytes. IfSome (R.remaining reader.old) (λ left. bytes.items ≡ take most left)) }
     ensures most { IfOk result (λ bytes. length bytes.items ≤ most) }

@@ -8,7 +8,7 @@ use Rattle.road_types.specs.declared.road.PitKind.{PitKind}
 use Rattle.plan_rules.specs.declared.plan.Plan.{Plan}
 use Rattle.plan_rules.specs.Plans.{amount}
 use Rattle.plan_rules.specs.Fits.{IsModerate}
-use Rattle.plan_rules.specs.FitsByParts.{HasModerateAmounts}
+use Rattle.plan_rules.specs.inside.FitsByParts.{HasModerateAmounts}
 use Rattle.plan_rules.specs.Rules.{fill_less_cut, access_share, road_total, pit_share}
 
 pub moderate_difference : (a b : ℤ) → IsModerate a → IsModerate b → unsigned_abs (a -ℤ b) ≤ 2 * 10 ^ 30

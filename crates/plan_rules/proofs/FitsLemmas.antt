@@ -9,8 +9,8 @@ use Rattle.plan_rules.specs.declared.plan.Piece.{Piece}
 use Rattle.plan_rules.specs.declared.plan.Plan.{Plan}
 use Rattle.plan_rules.specs.Plans.{no_piece}
 use Rattle.plan_rules.specs.Fits.{Fits, IsModerate, IsModeratePiece}
-use Rattle.plan_rules.specs.FitsByParts.{IsModerateRow, IsModerateTable, HasModerateTables, HasModeratePieces, HasModerateAmounts}
-use Rattle.plan_rules.proofs.NumberedLemmas.{numbered_all, all_numbered}
+use Rattle.plan_rules.specs.inside.FitsByParts.{IsModerateRow, IsModerateTable, HasModerateTables, HasModeratePieces, HasModerateAmounts}
+use Rattle.algebra.proofs.NumberedLemmas.{numbered_all, all_numbered}
 
 moderate_zero : IsModerate (pos 0)
 moderate_zero = omega arith
@@ -62,7 +62,7 @@ pub fits_of_parts : (road : Road) (plan : Plan) → HasModeratePieces road plan 
 fits_of_parts road plan p t =
     record {
       is_plan = record {
-        den = p.den_from;
+        den = p.den.from_one;
         pieces = p.pieces_count;
         cut = t.cut.is_table;
         fill = t.fill.is_table;
@@ -71,7 +71,7 @@ fits_of_parts road plan p t =
         roads = t.roads.is_table;
         opens = p.opens;
       };
-      den = p.den_to;
+      den = p.den;
       pieces = p.pieces;
       cut = t.cut.moderate;
       fill = t.fill.moderate;
@@ -82,7 +82,7 @@ fits_of_parts road plan p t =
 
 pub pieces_of_fits : (road : Road) (plan : Plan) → Fits road plan → HasModeratePieces road plan
 pieces_of_fits road plan f =
-    record { den_from = f.is_plan.den; den_to = f.den; pieces_count = f.is_plan.pieces; pieces = f.pieces; opens = f.is_plan.opens }
+    record { den = f.den; pieces_count = f.is_plan.pieces; pieces = f.pieces; opens = f.is_plan.opens }
 
 pub tables_of_fits : (road : Road) (plan : Plan) → Fits road plan → HasModerateTables road plan
 tables_of_fits road plan f =

@@ -6,28 +6,26 @@ use Rattle.algebra.proofs.Magnitudes.{unsigned_abs_mul_le, unsigned_abs_add_le}
 use Rattle.road_types.specs.Numbered.{IsNumber}
 use Rattle.road_types.specs.Heights.{height_along}
 use Rattle.road_types.specs.Road.{segment_count}
-use Rattle.road_types.specs.Accepted.{IsAccepted}
+use Rattle.road_types.specs.WellFormed.{IsWellFormed}
 use Rattle.road_types.specs.declared.road.Road.{Road}
 use Rattle.plan_rules.specs.declared.plan.Plan.{Plan}
 use Rattle.plan_rules.specs.Plans.{piece_of}
 use Rattle.plan_rules.specs.Fits.{Fits}
 use Rattle.plan_rules.specs.Rules.{IsWithin, IsLimited}
-use Rattle.plan_rules.specs.Widths.{IsDenominator, IsSmallPiece}
-
-pub denominator_of_fits : (road : Road) (plan : Plan) → Fits road plan → IsDenominator plan.den
-denominator_of_fits road plan f = record { from_one = f.is_plan.den; at_most = f.den }
+use Rattle.plan_rules.specs.inside.Widths.{IsSmallPiece}
+use Rattle.algebra.specs.Scale.{IsScale}
 
 -- a number between multiples of the denominator by numbers of magnitude at most n
-pub within_width : (low high den x : ℤ) (n : ℕ) → IsDenominator den → unsigned_abs low ≤ n → unsigned_abs high ≤ n → IsWithin low high den x → unsigned_abs x ≤ n * 2 ^ 40
+pub within_width : (low high den x : ℤ) (n : ℕ) → IsScale den → unsigned_abs low ≤ n → unsigned_abs high ≤ n → IsWithin low high den x → unsigned_abs x ≤ n * 2 ^ 40
 within_width low high den x n d p q h =
     let wide : unsigned_abs den ≤ 2 ^ 40 = omega (arith, ints, d.from_one, d.at_most) in
     let least = unsigned_abs_mul_le low den n (2 ^ 40) p wide in
     let most = unsigned_abs_mul_le high den n (2 ^ 40) q wide in
     omega (arith, ints, h.at_least, h.at_most)
 
-pub small_piece : (road : Road) (plan : Plan) → IsAccepted road → Fits road plan → IsLimited road plan → (g : ℕ) → IsNumber g (segment_count road) → IsSmallPiece (piece_of plan g)
+pub small_piece : (road : Road) (plan : Plan) → IsWellFormed road → Fits road plan → IsLimited road plan → (g : ℕ) → IsNumber g (segment_count road) → IsSmallPiece (piece_of plan g)
 small_piece road plan ok f limited g number =
-    let den = denominator_of_fits road plan f in
+    let den = f.den in
     let inside = limited.each g number in
     let low : unsigned_abs road.low ≤ 10000000 = omega (arith, ints, ok.low.at_least, ok.low.at_most) in
     let high : unsigned_abs road.high ≤ 10000000 = omega (arith, ints, ok.high.at_least, ok.high.at_most) in

@@ -4,8 +4,5 @@ pub mod AmountWidths
 pub mod CostWidths
 pub mod HeightWidths
 pub mod CapsLemmas
-pub mod ListRests
-pub mod Segments
 pub mod ScanLemmas
-pub mod NumberedLemmas
 pub mod FitsLemmas

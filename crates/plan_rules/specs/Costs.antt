@@ -1,63 +1,72 @@
--- What a plan costs, over its denominator: the sum of five totals, for cut, fill, hauls, access roads and removals.
+-- What a plan costs, over its denominator: the sum of five totals, for cut, fill, hauls, access roads and removals. Also which
+-- plans undercut a fraction.
 use Rattle.std.specs.Prelude.{ℕ, nat_le, if◌then◌else◌, List, ℤ, pos, ◌+ℤ◌, ◌*ℤ◌, ◌<ℤ◌}
 use Rattle.algebra.specs.Sums.{sum_to}
 use Rattle.road_types.specs.Road.{section, hop, block, section_count, hop_count, access_count, block_count, access_unit_cost}
 use Rattle.road_types.specs.declared.road.Road.{Road}
+use Rattle.plan_rules.specs.declared.costs.Movement.{Movement}
+use Rattle.plan_rules.specs.declared.costs.Movement.TheVariants.{Cut, Fill, Right, Left, Access}
 use Rattle.plan_rules.specs.declared.plan.Plan.{Plan}
 use Rattle.plan_rules.specs.Plans.{IsPlanOf, amount, opening}
 
--- unit costs by number
+-- ---- what is moved: for each kind its amounts, how many there are in a stage, and the unit cost of each
 
-abbrev pub cut_unit_cost : Road → ℕ → ℤ
-cut_unit_cost road i = (section road i).cut_cost
+abbrev pub amounts_of : Plan → Movement → List (List ℤ)
+amounts_of plan Cut = plan.cut
+amounts_of plan Fill = plan.fill
+amounts_of plan Right = plan.right
+amounts_of plan Left = plan.left
+amounts_of plan Access = plan.roads
 
-abbrev pub fill_unit_cost : Road → ℕ → ℤ
-fill_unit_cost road i = (section road i).fill_cost
+abbrev pub entry_count : Road → Movement → ℕ
+entry_count road Cut = section_count road
+entry_count road Fill = section_count road
+entry_count road Right = hop_count road
+entry_count road Left = hop_count road
+entry_count road Access = access_count road
 
-abbrev pub right_unit_cost : Road → ℕ → ℤ
-right_unit_cost road h = (hop road h).right_cost
+abbrev pub unit_cost : Road → Movement → ℕ → ℤ
+unit_cost road Cut i = (section road i).cut_cost
+unit_cost road Fill i = (section road i).fill_cost
+unit_cost road Right h = (hop road h).right_cost
+unit_cost road Left h = (hop road h).left_cost
+unit_cost road Access q = access_unit_cost road q
 
-abbrev pub left_unit_cost : Road → ℕ → ℤ
-left_unit_cost road h = (hop road h).left_cost
+-- unit cost times amount
+abbrev pub entry_cost : Road → Plan → Movement → ℕ → ℕ → ℤ
+entry_cost road plan m t i = unit_cost road m i *ℤ amount (amounts_of plan m) t i
 
--- an entry of stage t at its unit cost
-abbrev pub entry_cost : (ℕ → ℤ) → List (List ℤ) → ℕ → ℕ → ℤ
-entry_cost unit_cost amounts t i = unit_cost i *ℤ amount amounts t i
+-- all entries of stage t
+unfoldable pub stage_cost : Road → Plan → Movement → ℕ → ℤ
+stage_cost road plan m t = sum_to (entry_cost road plan m t) (entry_count road m)
 
--- so many entries of stage t
-abbrev pub stage_cost : (ℕ → ℤ) → List (List ℤ) → ℕ → ℕ → ℤ
-stage_cost unit_cost amounts count t = sum_to (entry_cost unit_cost amounts t) count
-
--- so many entries of all stages
-unfoldable pub amounts_cost : (ℕ → ℤ) → List (List ℤ) → ℕ → ℕ → ℤ
-amounts_cost unit_cost amounts stages count = sum_to (stage_cost unit_cost amounts count) stages
-
--- the five totals
-
-unfoldable pub cut_total : Road → Plan → ℤ
-cut_total road plan = amounts_cost (cut_unit_cost road) plan.cut road.stages (section_count road)
-
-unfoldable pub fill_total : Road → Plan → ℤ
-fill_total road plan = amounts_cost (fill_unit_cost road) plan.fill road.stages (section_count road)
-
--- hauls to the right and to the left
-unfoldable pub haul_total : Road → Plan → ℤ
-haul_total road plan =
-    amounts_cost (right_unit_cost road) plan.right road.stages (hop_count road)
-    +ℤ amounts_cost (left_unit_cost road) plan.left road.stages (hop_count road)
-
--- access roads with their pits
-unfoldable pub access_total : Road → Plan → ℤ
-access_total road plan = amounts_cost (access_unit_cost road) plan.roads road.stages (access_count road)
+-- all stages
+unfoldable pub movement_cost : Road → Plan → Movement → ℤ
+movement_cost road plan m = sum_to (stage_cost road plan m) road.stages
 
 -- the removal of block k, which is paid where it opens in one of the road's stages
 abbrev pub removal_cost : Road → Plan → ℕ → ℤ
 removal_cost road plan k = if nat_le (opening plan k) road.stages then plan.den *ℤ (block road k).cost else pos 0
 
+-- ---- the five totals and their sum
+
+abbrev pub cut_total : Road → Plan → ℤ
+cut_total road plan = movement_cost road plan Cut
+
+abbrev pub fill_total : Road → Plan → ℤ
+fill_total road plan = movement_cost road plan Fill
+
+-- hauls to the right and to the left
+abbrev pub haul_total : Road → Plan → ℤ
+haul_total road plan = movement_cost road plan Right +ℤ movement_cost road plan Left
+
+-- access roads with their pits
+abbrev pub access_total : Road → Plan → ℤ
+access_total road plan = movement_cost road plan Access
+
 unfoldable pub removal_total : Road → Plan → ℤ
 removal_total road plan = sum_to (removal_cost road plan) (block_count road)
 
--- the sum of the five totals
 unfoldable pub cost_of : Road → Plan → ℤ
 cost_of road plan =
     (((cut_total road plan +ℤ fill_total road plan) +ℤ haul_total road plan) +ℤ access_total road plan)

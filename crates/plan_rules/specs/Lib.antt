@@ -1,7 +1,6 @@
 pub mod Plans
 pub mod Fits
-pub mod FitsByParts
 pub mod Rules
 pub mod Costs
-pub mod Widths
 pub mod Verdicts
+pub mod inside

@@ -1,175 +1,151 @@
 // What a plan costs.
-ghost use Rattle.std.specs.Prelude.{◌≡◌, ◌^◌, ◌≤◌, ◌*◌, ◌+◌, ℤ, pos, ◌+ℤ◌, ◌*ℤ◌, unsigned_abs};
+ghost use Rattle.std.specs.Prelude.{◌≡◌, ◌^◌, ◌≤◌, ◌*◌, ℤ, ◌+ℤ◌, ◌*ℤ◌, unsigned_abs};
 ghost use Rattle.algebra.specs.Sums.{sum_to};
 ghost use Rattle.road_types.specs.Numbered.{IsNumber};
-ghost use Rattle.road_types.specs.Road.{section_count, hop_count, access_count, block_count};
-ghost use Rattle.road_types.specs.Accepted.{IsAccepted, IsCost};
+ghost use Rattle.road_types.specs.Road.{block_count};
+ghost use Rattle.road_types.specs.WellFormed.{IsWellFormed};
 ghost use Rattle.plan_rules.specs.Fits.{Fits};
-ghost use Rattle.plan_rules.specs.Costs.{section_cost, hop_cost, access_unit_cost, access_cost, stage_cost, removal_cost, cost_of};
-ghost use Rattle.plan_rules.specs.Widths.{IsPayable};
+ghost use Rattle.plan_rules.specs.Costs.{amounts_of, entry_count, unit_cost, entry_cost, stage_cost, movement_cost, removal_cost, cut_total, fill_total, haul_total, access_total, removal_total, cost_of};
+ghost use Rattle.plan_rules.specs.inside.Widths.{IsPayable};
 
-use crate::entries::{access_at, amount_at, block_at, hop_at, opening_at, pit_at, section_at};
-use crate::numbers::{plus, times};
+use crate::entries::{amount_at, opening_at};
 use crate::plan::Plan;
-use road_types::Road;
+use algebra::{plus, times};
+use road_types::{Listed, Road};
+
+/// What is moved, each kind with its amounts by stage.
+#[derive(Clone, Copy)]
+enum Movement {
+    Cut,
+    Fill,
+    Right,
+    Left,
+    Access,
+}
 
 /// The cost of a plan whose amounts are within their caps, over its denominator.
 #[tactic(auto, unfolding(crate::specs::Costs::cost_of))]
 pub fn cost_of(road: &Road, plan: &Plan) -> i128
-    requires accepted { IsAccepted road.now }
+    requires well_formed { IsWellFormed road.now }
     requires fits { Fits road.now plan.now }
     requires payable { IsPayable road.now plan.now }
-    ensures { result ≡ cost_of road.now plan.now }
+    ensures value { result ≡ cost_of road.now plan.now }
+    ensures width { unsigned_abs result ≤ 2 ^ 118 }
 {
-    plus(moving_cost(road, plan), removals_cost(road, plan))
-}
-
-/// The cost of all that is moved.
-fn moving_cost(road: &Road, plan: &Plan) -> i128
-    requires accepted { IsAccepted road.now }
-    requires fits { Fits road.now plan.now }
-    requires payable { IsPayable road.now plan.now }
-    ensures value { result ≡ sum_to (stage_cost road.now plan.now) road.now.stages }
-    ensures width { unsigned_abs result ≤ 2 ^ 119 }
-{
-    let mut total = 0;
-    for before in 0..road.stages {
-        total = plus(total, stage_cost(road, plan, before + 1));
-    }
-    total
-}
-
-/// The cost of all that is moved in a stage.
-#[tactic(auto, unfolding(crate::specs::Costs::stage_cost))]
-fn stage_cost(road: &Road, plan: &Plan, stage: usize) -> i128
-    requires accepted { IsAccepted road.now }
-    requires fits { Fits road.now plan.now }
-    requires payable { IsPayable road.now plan.now }
-    requires stage { IsNumber stage road.now.stages }
-    ensures value { result ≡ stage_cost road.now plan.now stage }
-    ensures width { unsigned_abs result ≤ 2 ^ 117 }
-{
-    let earthwork = sections_cost(road, plan, stage);
-    let hauls = hops_cost(road, plan, stage);
-    plus(plus(earthwork, hauls), accesses_cost(road, plan, stage))
-}
-
-/// The cost of cut and fill of all sections in a stage.
-fn sections_cost(road: &Road, plan: &Plan, stage: usize) -> i128
-    requires accepted { IsAccepted road.now }
-    requires fits { Fits road.now plan.now }
-    requires payable { IsPayable road.now plan.now }
-    requires stage { IsNumber stage road.now.stages }
-    ensures value { result ≡ sum_to (section_cost road.now plan.now stage) (section_count road.now) }
-    ensures width { unsigned_abs result ≤ 2 ^ 115 }
-{
-    let mut total = 0;
-    for before in 0..road.sections.len() {
-        total = plus(total, section_cost(road, plan, stage, before + 1));
-    }
-    total
-}
-
-/// The cost of cut and fill of a section in a stage.
-fn section_cost(road: &Road, plan: &Plan, stage: usize, number: usize) -> i128
-    requires accepted { IsAccepted road.now }
-    requires payable { IsPayable road.now plan.now }
-    requires stage { IsNumber stage road.now.stages }
-    requires number { IsNumber number (section_count road.now) }
-    ensures { result ≡ section_cost road.now plan.now stage number }
-{
-    let section = section_at(road, number);
-    let cut = priced(section.cut_cost, amount_at(&plan.cut, stage, number));
-    let fill = priced(section.fill_cost, amount_at(&plan.fill, stage, number));
-    plus(cut, fill)
-}
-
-/// The cost of all hauls over hops in a stage.
-fn hops_cost(road: &Road, plan: &Plan, stage: usize) -> i128
-    requires accepted { IsAccepted road.now }
-    requires fits { Fits road.now plan.now }
-    requires payable { IsPayable road.now plan.now }
-    requires stage { IsNumber stage road.now.stages }
-    ensures value { result ≡ sum_to (hop_cost road.now plan.now stage) (hop_count road.now) }
-    ensures width { unsigned_abs result ≤ 2 ^ 115 }
-{
-    let mut total = 0;
-    for before in 0..road.hops.len() {
-        total = plus(total, hop_cost(road, plan, stage, before + 1));
-    }
-    total
-}
-
-/// The cost of hauls over a hop in a stage, both ways.
-fn hop_cost(road: &Road, plan: &Plan, stage: usize, number: usize) -> i128
-    requires accepted { IsAccepted road.now }
-    requires payable { IsPayable road.now plan.now }
-    requires stage { IsNumber stage road.now.stages }
-    requires number { IsNumber number (hop_count road.now) }
-    ensures { result ≡ hop_cost road.now plan.now stage number }
-{
-    let hop = hop_at(road, number);
-    let right = priced(hop.right_cost, amount_at(&plan.right, stage, number));
-    let left = priced(hop.left_cost, amount_at(&plan.left, stage, number));
-    plus(right, left)
-}
-
-/// The cost of what goes over access roads in a stage.
-fn accesses_cost(road: &Road, plan: &Plan, stage: usize) -> i128
-    requires accepted { IsAccepted road.now }
-    requires fits { Fits road.now plan.now }
-    requires payable { IsPayable road.now plan.now }
-    requires stage { IsNumber stage road.now.stages }
-    ensures value { result ≡ sum_to (access_cost road.now plan.now stage) (access_count road.now) }
-    ensures width { unsigned_abs result ≤ 2 ^ 115 }
-{
-    let mut total = 0;
-    for before in 0..road.roads.len() {
-        total = plus(total, access_cost(road, plan, stage, before + 1));
-    }
-    total
-}
-
-/// The cost of what goes over an access road in a stage.
-fn access_cost(road: &Road, plan: &Plan, stage: usize, number: usize) -> i128
-    requires accepted { IsAccepted road.now }
-    requires payable { IsPayable road.now plan.now }
-    requires stage { IsNumber stage road.now.stages }
-    requires number { IsNumber number (access_count road.now) }
-    ensures { result ≡ access_cost road.now plan.now stage number }
-{
-    priced(
-        access_unit_cost(road, number),
-        amount_at(&plan.roads, stage, number),
+    let cut = movement_cost(road, plan, Movement::Cut);
+    let fill = movement_cost(road, plan, Movement::Fill);
+    let haul = haul_total(road, plan);
+    let access = movement_cost(road, plan, Movement::Access);
+    plus(
+        plus(plus(plus(cut, fill), haul), access),
+        removal_total(road, plan),
     )
 }
 
-/// What a litre on an access road costs, with its pit.
-fn access_unit_cost(road: &Road, number: usize) -> i64
-    requires accepted { IsAccepted road.now }
-    requires number { IsNumber number (access_count road.now) }
-    ensures { result ≡ access_unit_cost road.now number }
+/// The cost of hauls over hops, to the right and to the left.
+fn haul_total(road: &Road, plan: &Plan) -> i128
+    requires well_formed { IsWellFormed road.now }
+    requires payable { IsPayable road.now plan.now }
+    ensures value { result ≡ haul_total road.now plan.now }
+    ensures width { unsigned_abs result ≤ 96 * 10 ^ 21 * 2 ^ 40 }
 {
-    let access = access_at(road, number);
-    access.cost + pit_at(road, access.pit).cost
+    plus(
+        movement_cost(road, plan, Movement::Right),
+        movement_cost(road, plan, Movement::Left),
+    )
 }
 
-/// The cost of an amount at a unit cost.
-fn priced(unit: i64, amount: i128) -> i128
-    requires unit { unsigned_abs unit ≤ 2 ^ 21 }
-    requires amount { unsigned_abs amount ≤ 2 ^ 87 }
-    ensures value { result ≡ unit *ℤ amount }
-    ensures width { unsigned_abs result ≤ 2 ^ 108 }
+/// The cost of one kind of movement in all stages.
+#[tactic(auto, unfolding(crate::specs::Costs::movement_cost))]
+fn movement_cost(road: &Road, plan: &Plan, movement: Movement) -> i128
+    requires well_formed { IsWellFormed road.now }
+    requires payable { IsPayable road.now plan.now }
+    ensures value { result ≡ movement_cost road.now plan.now movement }
+    ensures width { unsigned_abs result ≤ 48 * 10 ^ 21 * 2 ^ 40 }
 {
-    times(i128::from(unit), amount)
+    let mut total = 0;
+    for before in 0..road.stages {
+        total = plus(total, stage_cost(road, plan, movement, before + 1));
+    }
+    total
+}
+
+/// The cost of one kind of movement in a stage.
+#[tactic(auto, unfolding(crate::specs::Costs::stage_cost))]
+fn stage_cost(road: &Road, plan: &Plan, movement: Movement, stage: usize) -> i128
+    requires well_formed { IsWellFormed road.now }
+    requires payable { IsPayable road.now plan.now }
+    requires stage { IsNumber stage road.now.stages }
+    ensures { result ≡ stage_cost road.now plan.now movement stage }
+{
+    let mut total = 0;
+    for before in 0..entry_count(road, movement) {
+        total = plus(total, entry_cost(road, plan, movement, stage, before + 1));
+    }
+    total
+}
+
+/// The cost of one entry: its unit cost times its amount.
+fn entry_cost(road: &Road, plan: &Plan, movement: Movement, stage: usize, number: usize) -> i128
+    requires well_formed { IsWellFormed road.now }
+    requires payable { IsPayable road.now plan.now }
+    requires stage { IsNumber stage road.now.stages }
+    requires number { IsNumber number (entry_count road.now movement) }
+    ensures { result ≡ entry_cost road.now plan.now movement stage number }
+{
+    let unit = unit_cost(road, movement, number);
+    times(
+        i128::from(unit),
+        amount_at(amounts_of(plan, movement), stage, number),
+    )
+}
+
+/// How many entries of a kind of movement a stage has.
+fn entry_count(road: &Road, movement: Movement) -> usize
+    ensures { result ≡ entry_count road.now movement }
+{
+    match movement {
+        Movement::Cut | Movement::Fill => road.sections.len(),
+        Movement::Right | Movement::Left => road.hops.len(),
+        Movement::Access => road.roads.len(),
+    }
+}
+
+/// The amounts of a kind of movement, by stage.
+fn amounts_of(plan: &Plan, movement: Movement) -> &Listed<Listed<i128>>
+    ensures { result.now ≡ amounts_of plan.now movement }
+{
+    match movement {
+        Movement::Cut => &plan.cut,
+        Movement::Fill => &plan.fill,
+        Movement::Right => &plan.right,
+        Movement::Left => &plan.left,
+        Movement::Access => &plan.roads,
+    }
+}
+
+/// What a litre of an entry costs.
+fn unit_cost(road: &Road, movement: Movement, number: usize) -> i64
+    requires well_formed { IsWellFormed road.now }
+    requires number { IsNumber number (entry_count road.now movement) }
+    ensures { result ≡ unit_cost road.now movement number }
+{
+    match movement {
+        Movement::Cut => road.section(number).cut_cost,
+        Movement::Fill => road.section(number).fill_cost,
+        Movement::Right => road.hop(number).right_cost,
+        Movement::Left => road.hop(number).left_cost,
+        Movement::Access => road.access_unit_cost(number),
+    }
 }
 
 /// The cost of all removals.
-fn removals_cost(road: &Road, plan: &Plan) -> i128
-    requires accepted { IsAccepted road.now }
+#[tactic(auto, unfolding(crate::specs::Costs::removal_total))]
+fn removal_total(road: &Road, plan: &Plan) -> i128
+    requires well_formed { IsWellFormed road.now }
     requires fits { Fits road.now plan.now }
-    ensures value { result ≡ sum_to (removal_cost road.now plan.now) (block_count road.now) }
-    ensures width { unsigned_abs result ≤ 2 ^ 64 }
+    ensures value { result ≡ removal_total road.now plan.now }
+    ensures width { unsigned_abs result ≤ 2 ^ 62 }
 {
     let mut total = 0;
     for before in 0..road.blocks.len() {
@@ -180,13 +156,13 @@ fn removals_cost(road: &Road, plan: &Plan) -> i128
 
 /// The cost of a block's removal; 0 where it never opens.
 fn removal_cost(road: &Road, plan: &Plan, number: usize) -> i128
-    requires accepted { IsAccepted road.now }
+    requires well_formed { IsWellFormed road.now }
     requires fits { Fits road.now plan.now }
     requires number { IsNumber number (block_count road.now) }
     ensures { result ≡ removal_cost road.now plan.now number }
 {
     if opening_at(plan, number) <= road.stages {
-        times(plan.den, i128::from(block_at(road, number).cost))
+        times(plan.den, i128::from(road.block(number).cost))
     } else {
         0
     }

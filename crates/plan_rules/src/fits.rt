@@ -1,16 +1,15 @@
 // Whether a plan has the lists of a road and numbers of a moderate size.
 ghost use Rattle.std.specs.Prelude.{◌↔◌, IsTrue, ◌≡◌, length, ℕ, ℤ, pos, ◌≤ℤ◌, ◌^◌, ◌-◌};
 ghost use Rattle.std.specs.List.{All};
+ghost use Rattle.algebra.specs.Scale.{IsScale};
 ghost use Rattle.road_types.specs.Road.{section_count, segment_count, access_count, block_count};
 ghost use Rattle.plan_rules.specs.Fits.{Fits, IsModerate, IsModeratePiece};
-ghost use Rattle.plan_rules.specs.FitsByParts.{IsModerateRow, IsModerateTable, HasModerateTables, HasModeratePieces};
+ghost use Rattle.plan_rules.specs.inside.FitsByParts.{IsModerateRow, IsModerateTable, HasModerateTables, HasModeratePieces};
 
 use crate::logic::both;
 use crate::plan::{Piece, Plan};
+use algebra::{GREATEST_SCALE, at_most};
 use road_types::{Listed, Road};
-
-/// The greatest denominator of a plan.
-const GREATEST_DENOMINATOR: i128 = 1 << 40;
 
 /// One more than the greatest magnitude of a plan's numbers.
 const MAGNITUDE_LIMIT: u128 = 1_000_000_000_000_000_000_000_000_000_000;
@@ -48,9 +47,9 @@ fn is_piece_count(plan: &Plan, road: &Road) -> bool
 }
 
 fn is_denominator(den: i128) -> bool
-    ensures { IsTrue result ↔ ((pos 1 ≤ℤ den) × (den ≤ℤ pos (2 ^ 40))) }
+    ensures { IsTrue result ↔ IsScale den }
 {
-    1 <= den && den <= GREATEST_DENOMINATOR
+    both(at_most(1, den), at_most(den, GREATEST_SCALE))
 }
 
 fn has_moderate_tables(plan: &Plan, road: &Road) -> bool

@@ -2,11 +2,12 @@
 ghost use Rattle.std.specs.Prelude.{◌≡◌, ◌↔◌, IsTrue, None, MatchOption, ℕ};
 ghost use Rattle.road_types.specs.Numbered.{IsNumber};
 ghost use Rattle.road_types.specs.Faults.{road_fault};
-ghost use Rattle.road_types.specs.Accepted.{IsAccepted};
+ghost use Rattle.road_types.specs.WellFormed.{IsWellFormed};
 ghost use Rattle.plan_rules.specs.Fits.{Fits};
 ghost use Rattle.plan_rules.specs.Rules.{Keeps, IsPlace, place_count, at_no_stage, at_each_stage, amount_count};
-ghost use Rattle.plan_rules.specs.Widths.{KeepsLesser};
-ghost use Rattle.plan_rules.specs.Verdicts.{IsVerdict, KeepsStage, IsFirstPlace, KeepsRule, IsFirstStage};
+ghost use Rattle.plan_rules.specs.inside.Scans.{KeepsLesser};
+ghost use Rattle.plan_rules.specs.Verdicts.{IsVerdict, HasNarrowCost};
+ghost use Rattle.plan_rules.specs.inside.Scans.{KeepsStage, IsFirstPlace, KeepsRule, IsFirstStage};
 
 use crate::costs::cost_of;
 use crate::plan::Plan;
@@ -32,20 +33,22 @@ const RULES: [Rule; 9] = [
 ];
 
 /// Admissible with the cost over the plan's denominator where no rule is broken, else the first broken rule: the least rule,
-/// then the least stage, then the least place.
+/// then the least stage, then the least place. A cost has a magnitude of at most 2^118.
 pub fn judge(road: &Road, plan: &Plan) -> Verdict
     requires accepted { road_fault road.now ≡ None }
     requires fits { Fits road.now plan.now }
-    ensures { IsVerdict road.now plan.now result }
+    ensures verdict { IsVerdict road.now plan.now result }
+    ensures width { HasNarrowCost result }
 {
     verdict_of(road, plan)
 }
 
 /// The verdict on a plan of an accepted road.
 fn verdict_of(road: &Road, plan: &Plan) -> Verdict
-    requires accepted { IsAccepted road.now }
+    requires well_formed { IsWellFormed road.now }
     requires fits { Fits road.now plan.now }
-    ensures { IsVerdict road.now plan.now result }
+    ensures verdict { IsVerdict road.now plan.now result }
+    ensures width { HasNarrowCost result }
 {
     for rule in RULES {
         if let Some((stage, place)) = first_broken_stage(road, plan, rule) {
@@ -59,7 +62,7 @@ fn verdict_of(road: &Road, plan: &Plan) -> Verdict
 
 /// The first stage of a rule that has a broken place, with the first such place.
 fn first_broken_stage(road: &Road, plan: &Plan, rule: Rule) -> Option<(usize, usize)>
-    requires accepted { IsAccepted road.now }
+    requires well_formed { IsWellFormed road.now }
     requires fits { Fits road.now plan.now }
     requires lesser { KeepsLesser road.now plan.now rule }
     ensures { MatchOption result (KeepsRule road.now plan.now rule) (λ p. IsFirstStage road.now plan.now rule p.0 p.1) }
@@ -74,7 +77,7 @@ fn first_broken_stage(road: &Road, plan: &Plan, rule: Rule) -> Option<(usize, us
 
 /// The first place of a rule's stage that isn't kept.
 fn first_broken_place(road: &Road, plan: &Plan, rule: Rule, stage: usize) -> Option<usize>
-    requires accepted { IsAccepted road.now }
+    requires well_formed { IsWellFormed road.now }
     requires fits { Fits road.now plan.now }
     requires lesser { KeepsLesser road.now plan.now rule }
     ensures { MatchOption result (KeepsStage road.now plan.now rule stage) (λ p. IsFirstPlace road.now plan.now rule stage p) }
@@ -90,7 +93,7 @@ fn first_broken_place(road: &Road, plan: &Plan, rule: Rule, stage: usize) -> Opt
 /// How many places a rule has at a stage; stage 0 stands for a rule without stages.
 #[tactic(auto, unfolding(crate::specs::Rules::place_count))]
 fn place_count(road: &Road, rule: Rule, stage: usize) -> usize
-    requires accepted { IsAccepted road.now }
+    requires well_formed { IsWellFormed road.now }
     ensures { result ≡ place_count road.now rule stage }
 {
     let segments = road.knots.len() - 1;
@@ -127,7 +130,7 @@ fn at_each_stage(road: &Road, stage: usize, count: usize) -> usize
 
 /// How many amounts a stage has.
 fn amount_count(road: &Road) -> usize
-    requires accepted { IsAccepted road.now }
+    requires well_formed { IsWellFormed road.now }
     ensures { result ≡ amount_count road.now }
 {
     2 * (road.sections.len() + road.hops.len()) + road.roads.len()
@@ -136,7 +139,7 @@ fn amount_count(road: &Road) -> usize
 /// Whether a rule holds at a place, where all lesser rules hold everywhere.
 #[tactic(auto, unfolding(crate::specs::Rules::Keeps, crate::specs::Rules::place_count))]
 fn keeps(road: &Road, plan: &Plan, rule: Rule, stage: usize, place: usize) -> bool
-    requires accepted { IsAccepted road.now }
+    requires well_formed { IsWellFormed road.now }
     requires fits { Fits road.now plan.now }
     requires lesser { KeepsLesser road.now plan.now rule }
     requires place { IsPlace road.now rule stage place }

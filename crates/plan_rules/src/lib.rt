@@ -8,17 +8,13 @@ mod fits;
 mod heights;
 mod judging;
 mod logic;
-mod numbers;
 mod plan;
 mod rules;
 mod verdict;
-mod volumes;
+mod within;
 
 pub use heights::{height_at, offset_of};
 pub use judging::judge;
 pub use plan::{Piece, Plan};
+pub use road_types::table_volume;
 pub use verdict::{Rule, Verdict};
-pub use volumes::table_volume;
-
-#[cfg(test)]
-mod tests;

@@ -8,13 +8,15 @@ use Rattle.road_types.specs.declared.road.Road.{Road}
 use Rattle.plan_rules.specs.declared.plan.Plan.{Plan}
 use Rattle.plan_text.specs.declared.error.TextErr.{TextErr}
 use Rattle.plan_text.specs.declared.error.TextErr.TheVariants.{Bad, NoMemory}
-use Rattle.plan_text.specs.Reading.{Gives}
+use Rattle.plan_text.specs.inside.LineReading.{Gives}
 use Rattle.plan_text.specs.Taken.{Took}
-use Rattle.plan_text.specs.Answers.{IfBad, StartsWithPlan, StandsApart}
-use Rattle.plan_text.specs.Due.{anything, nothing, first_misfit, refused_line}
+use Rattle.plan_text.specs.Misfits.{IfBad}
+use Rattle.plan_text.specs.PlanText.{AreApart, StartsWithPlan}
+use Rattle.plan_text.specs.Misfits.{anything, nothing, first_misfit, refused_line}
 use Rattle.plan_text.specs.PlanText.{plan_text, HasText}
-use Rattle.plan_text.specs.Plans.{plan_due}
-use Rattle.plan_text.specs.WholeText.{IsPlanText, start_of, with_nothing_left, whole_plan, plan_of_text, GivesPlan}
+use Rattle.plan_text.specs.inside.PlanReading.{plan_due}
+use Rattle.plan_text.specs.PlanText.{IsPlanText}
+use Rattle.plan_text.specs.inside.PlanReading.{start_of, with_nothing_left, whole_plan, plan_of_text, GivesPlan}
 use Rattle.plan_text.proofs.SpellsLemmas.{ok_parts}
 use Rattle.plan_text.proofs.PlanLaws.{plan_spells}
 use Rattle.plan_text.proofs.DueLaws.{plan_follows}
@@ -103,14 +105,10 @@ whole_line road bytes (Err (Bad line)) e = MatchResult-at_err _ _ line e (plan_o
 whole_line road bytes (Err NoMemory) e = tt
 
 -- no text of a plan is the front of another's
-pub apart : (road : Road) (plan other : Plan) (rest : List ℕ) → HasText road plan → HasText road other → plan_text road plan ++ rest ≡ plan_text road other → (plan ≡ other) × (rest ≡ [])
-apart road plan other rest h k e =
+pub are_apart : (road : Road) → AreApart road
+are_apart road plan other rest h k e =
     let text = plan_text road other in
     let one = (plan_spells road).complete (start_of text) 0 plan rest h (ap (lines_of 0) (sym e)) in
     let two = (plan_spells road).complete (start_of text) 0 other [] k (ap (lines_of 0) (sym (append-nil text))) in
     let same = ok_parts plan other one.0 two.0 (sym one.2 ∙ two.2) in
     (same.0, sym (text_of-lines_of one.1 rest) ∙ ap text_of (sym one.3) ∙ ap (λ (r : Reading). text_of r.left) same.1 ∙ ap text_of two.3)
-
-pub apart_on_ok : {T E : Type 0} (result : Result T E) (road : Road) (plan : Plan) → HasText road plan → OnOk result (StandsApart road plan)
-apart_on_ok (Ok value) road plan h = λ other rest k e. apart road plan other rest h k e
-apart_on_ok (Err error) road plan h = tt

@@ -5,10 +5,11 @@ use Rattle.std.proofs.lemmas.Result.{MatchResult-weaker}
 use Rattle.text_parts.specs.Lines.{TextLine, Reading}
 use Rattle.road_types.specs.declared.road.Road.{Road}
 use Rattle.road_types.specs.Road.{section_count, segment_count, access_count, block_count}
-use Rattle.plan_text.specs.Forms.{Form, short_numbers, line_numbers}
-use Rattle.plan_text.specs.Reading.{Read, then_read, ◌>>=◌, give, taken, behind, next_numbers, numbers_due, repeat_due}
-use Rattle.plan_text.specs.Plans.{den_form, piece_form, opens_form, end_form, den_due, piece_due, opens_due, stage_due, tables_due, plan_due}
-use Rattle.plan_text.specs.Due.{times, stage_forms, forms_due, misfit_or}
+use Rattle.plan_text.specs.LineForms.{Form, short_numbers, line_numbers}
+use Rattle.plan_text.specs.inside.LineReading.{Read, then_read, ◌>>=◌, give, taken, behind, next_numbers, numbers_due, repeat_due}
+use Rattle.plan_text.specs.LineForms.{den_form, piece_form, opens_form, end_form}
+use Rattle.plan_text.specs.inside.PlanReading.{den_due, piece_due, opens_due, stage_due, tables_due, plan_due}
+use Rattle.plan_text.specs.Misfits.{times, stage_forms, forms_due, misfit_or}
 
 pub record Follows {A : Type 0} (read : Read A) (forms : List Form) : Type 0 where
   pub follows : (before : Reading) (others : ℕ → List TextLine → Option ℕ) → MatchResult (read before) (λ p. misfit_or forms others before.number before.left ≡ others p.1.number p.1.left) (λ line. misfit_or forms others before.number before.left ≡ Some line)

@@ -13,7 +13,7 @@ use Rattle.text_parts.specs.Words.{words_of}
 use Rattle.text_parts.specs.Lines.{TextLine}
 use Rattle.text_parts.specs.Decimal.{whole_of, IsShort}
 use Rattle.text_parts.proofs.SpellingLemmas.{whole_of-spelling, spelling-whole_of}
-use Rattle.plan_text.specs.Forms.{Form, AreOfForm, spelled_row, in_range, number_of, numbers_of, so_many, numbers_behind, line_numbers}
+use Rattle.plan_text.specs.LineForms.{Form, AreOfForm, spelled_row, in_range, word_number, numbers_of, so_many, numbers_behind, line_numbers}
 use Rattle.plan_text.proofs.WordLemmas.{IsWord, words-spelled_row}
 
 int_le_true : (a b : ℤ) → int_le a b ≡ true → a ≤ℤ b
@@ -44,8 +44,8 @@ record IsNumberOf (form : Form) (word : List ℕ) (n : ℤ) : Type 0 where
   short : IsShort n
   spelled : word ≡ signed_decimal n
 
-number_is : (form : Form) (word : List ℕ) (n : ℤ) → number_of form word ≡ Some n → IsNumberOf form word n
-unfolding number_of
+number_is : (form : Form) (word : List ℕ) (n : ℤ) → word_number form word ≡ Some n → IsNumberOf form word n
+unfolding word_number
 number_is form word n e =
     let read = and_then_some (in_range form) (whole_of word) n e in
     let range = guard_some (int_le form.low read.0 && int_le read.0 form.high) (Some read.0) n read.2 in
@@ -54,8 +54,8 @@ number_is form word n e =
     subst (IsNumberOf form word) (some_is read.0 n range.1)
     (record { low = int_le_true form.low read.0 bounds.0; high = int_le_true read.0 form.high bounds.1; short = spelled.0; spelled = spelled.1 })
 
-is_number : (form : Form) (n : ℤ) → form.low ≤ℤ n → n ≤ℤ form.high → IsShort n → number_of form (signed_decimal n) ≡ Some n
-unfolding number_of
+is_number : (form : Form) (n : ℤ) → form.low ≤ℤ n → n ≤ℤ form.high → IsShort n → word_number form (signed_decimal n) ≡ Some n
+unfolding word_number
 is_number form n low high short =
     ap (option_and_then (in_range form)) (whole_of-spelling n short)
     ∙ cond-true (int_le form.low n && int_le n form.high) (Some n) None (and_from _ _ (true_int_le form.low n low) (true_int_le n form.high high))
@@ -72,7 +72,7 @@ numbers_are form [] numbers e =
     subst (AreNumbersOf form []) (some_is [] numbers e)
     (record { low = All-nil (λ n. form.low ≤ℤ n); high = All-nil (λ n. n ≤ℤ form.high); short = All-nil IsShort; spelled = refl })
 numbers_are form (word ∷ words) numbers e =
-    let first = and_then_some (λ n. option_map (λ ns. n ∷ ns) (numbers_of form words)) (number_of form word) numbers e in
+    let first = and_then_some (λ n. option_map (λ ns. n ∷ ns) (numbers_of form words)) (word_number form word) numbers e in
     let others = map_some (λ ns. first.0 ∷ ns) (numbers_of form words) numbers first.2 in
     let n = number_is form word first.0 first.1 in
     let ns = numbers_are form words others.0 others.1 in

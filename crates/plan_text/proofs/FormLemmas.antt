@@ -1,7 +1,7 @@
 -- Reading the numbers of a line word by word.
 use Rattle.std.proofs.Common.{◌≡◌, ℕ, ℤ, List, [], ◌∷◌, ◌++◌, Option, Some, None, refl, sym, ap, ◌∙◌, append_assoc}
 use Rattle.std.specs.Option.{option_map, option_and_then}
-use Rattle.plan_text.specs.Forms.{Form, number_of, numbers_of}
+use Rattle.plan_text.specs.LineForms.{Form, word_number, numbers_of}
 
 -- the numbers read so far, before those of the words that are left
 abbrev pub numbers_with : Form → List ℤ → List (List ℕ) → Option (List ℤ)
@@ -12,13 +12,13 @@ push_front front n None = refl
 push_front front n (Some ns) = ap (λ ns. Some ns) (sym (append_assoc front (n ∷ []) ns))
 
 -- one more word is one more number
-pub numbers_with-step : (form : Form) (front : List ℤ) (word : List ℕ) (words : List (List ℕ)) (n : ℤ) → Some n ≡ number_of form word → numbers_with form front (word ∷ words) ≡ numbers_with form (front ++ (n ∷ [])) words
+pub numbers_with-step : (form : Form) (front : List ℤ) (word : List ℕ) (words : List (List ℕ)) (n : ℤ) → Some n ≡ word_number form word → numbers_with form front (word ∷ words) ≡ numbers_with form (front ++ (n ∷ [])) words
 numbers_with-step form front word words n e =
     ap (λ o. option_map (λ ns. front ++ ns) (option_and_then (λ n. option_map (λ ns. n ∷ ns) (numbers_of form words)) o)) (sym e)
     ∙ push_front front n (numbers_of form words)
 
 -- a word that is no number of the form ends the line's reading
-pub numbers_with-stops : (form : Form) (front : List ℤ) (word : List ℕ) (words : List (List ℕ)) → None ≡ number_of form word → numbers_with form front (word ∷ words) ≡ None
+pub numbers_with-stops : (form : Form) (front : List ℤ) (word : List ℕ) (words : List (List ℕ)) → None ≡ word_number form word → numbers_with form front (word ∷ words) ≡ None
 numbers_with-stops form front word words e =
     ap (λ o. option_map (λ ns. front ++ ns) (option_and_then (λ n. option_map (λ ns. n ∷ ns) (numbers_of form words)) o)) (sym e)
 

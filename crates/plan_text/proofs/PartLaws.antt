@@ -1,4 +1,5 @@
 -- The lines of a plan text, part by part, spell what they are read as.
+use Rattle.algebra.specs.Scale.{IsScale, greatest_scale}
 use Rattle.std.proofs.Common.{◌≡◌, ℕ, ℤ, pos, negsuc, ◌-◌, ◌^◌, ◌<◌, ◌≤ℤ◌, Ok, List, [], ◌∷◌, ◌++◌, map, length, All, unsigned_abs, get_or, refl, ap, ap₂, subst, ◌∙◌, arith, append_assoc, codes}
 use Rattle.std.proofs.lemmas.Int.{ints}
 use Rattle.std.proofs.lemmas.List.{length-map}
@@ -7,15 +8,16 @@ use Rattle.road_types.specs.declared.road.Road.{Road}
 use Rattle.road_types.specs.Road.{section_count, access_count}
 use Rattle.plan_rules.specs.declared.plan.Piece.{Piece}
 use Rattle.plan_rules.specs.Fits.{IsModeratePiece}
-use Rattle.plan_rules.specs.FitsByParts.{IsModerateRow}
+use Rattle.plan_rules.specs.inside.FitsByParts.{IsModerateRow}
 use Rattle.plan_rules.proofs.FitsLemmas.{row_moderate, moderate_row}
 use Rattle.text_parts.specs.Decimal.{IsShort}
 use Rattle.text_parts.specs.Lines.{Reading, lines_of}
 use Rattle.plan_text.specs.declared.rows.Stage.{Stage}
-use Rattle.plan_text.specs.Forms.{AreOfForm, short_numbers, greatest_short, spelled_line}
-use Rattle.plan_text.specs.Reading.{Read, numbers_due}
+use Rattle.plan_text.specs.LineForms.{AreOfForm, short_numbers, greatest_short, spelled_line}
+use Rattle.plan_text.specs.inside.LineReading.{Read, numbers_due}
 use Rattle.plan_text.specs.PlanText.{piece_text}
-use Rattle.plan_text.specs.Plans.{den_form, piece_form, opens_form, end_form, nth, den_due, piece_due, opens_due, stage_due}
+use Rattle.plan_text.specs.LineForms.{den_form, piece_form, opens_form, end_form}
+use Rattle.plan_text.specs.inside.PlanReading.{nth, den_due, piece_due, opens_due, stage_due}
 use Rattle.plan_text.specs.Taken.{Took}
 use Rattle.plan_text.proofs.WordLemmas.{IsWord, is_word}
 use Rattle.plan_text.proofs.SpellsLemmas.{Spells, row_spells, made_spells, then_ok, given_is, took_then}
@@ -29,31 +31,27 @@ refit_spells read text Fit Other s there back =
     }
 
 -- the denominator
-pub record IsDenominator (den : ℤ) : Type 0 where
-  pub from : pos 1 ≤ℤ den
-  pub to : den ≤ℤ pos (2 ^ 40)
-
-den_short : (den : ℤ) → IsDenominator den → IsShort den
-den_short (pos n) h = omega (arith, ints, h.to)
-den_short (negsuc n) h = absurd (omega (arith, ints, h.from))
+den_short : (den : ℤ) → IsScale den → IsShort den
+den_short (pos n) h = omega (arith, ints, h.at_most)
+den_short (negsuc n) h = absurd (omega (arith, ints, h.from_one))
 
 one_number : (numbers : List ℤ) → length numbers ≡ 1 → nth numbers 0 ∷ [] ≡ numbers
 one_number [] e = absurd (omega (arith, e))
 one_number (a ∷ []) e = refl
 one_number (a ∷ b ∷ ns) e = absurd (omega (arith, e))
 
-pub den_spells : Spells den_due (λ den. spelled_line (codes "plan") (den ∷ [])) IsDenominator
+pub den_spells : Spells den_due (λ den. spelled_line (codes "plan") (den ∷ [])) IsScale
 unfolding den_due
 den_spells =
-    made_spells (numbers_due den_form) (spelled_line (codes "plan")) (AreOfForm den_form) (λ numbers. nth numbers 0) (λ den. den ∷ []) IsDenominator
+    made_spells (numbers_due den_form) (spelled_line (codes "plan")) (AreOfForm den_form) (λ numbers. nth numbers 0) (λ den. den ∷ []) IsScale
     (row_spells den_form (is_word (codes "plan") refl refl))
-    (λ numbers h. (one_number numbers h.count, record { from = h.low 0 (pos 0) (omega (arith, h.count)); to = h.high 0 (pos 0) (omega (arith, h.count)) }))
+    (λ numbers h. (one_number numbers h.count, record { from_one = h.low 0 (pos 0) (omega (arith, h.count)); at_most = h.high 0 (pos 0) (omega (arith, h.count)) }))
     (λ den h. (
       refl,
       record {
         count = refl;
-        low = All-cons (λ n. pos 1 ≤ℤ n) den [] h.from (All-nil (λ n. pos 1 ≤ℤ n));
-        high = All-cons (λ n. n ≤ℤ pos (2 ^ 40)) den [] h.to (All-nil (λ n. n ≤ℤ pos (2 ^ 40)));
+        low = All-cons (λ n. pos 1 ≤ℤ n) den [] h.from_one (All-nil (λ n. pos 1 ≤ℤ n));
+        high = All-cons (λ n. n ≤ℤ pos greatest_scale) den [] h.at_most (All-nil (λ n. n ≤ℤ pos greatest_scale));
         short = All-cons IsShort den [] (den_short den h) (All-nil IsShort);
       },
     ))

@@ -2,20 +2,21 @@
 use Rattle.std.proofs.Common.{◌≡◌, ℕ, ℤ, pos, Ok, List, [], ◌∷◌, ◌++◌, map, length, All, refl, ap, subst, ◌∙◌, arith, append_assoc, codes}
 use Rattle.std.specs.List.{flat_map}
 use Rattle.std.proofs.lemmas.List.Elements.{All-nil}
+use Rattle.algebra.specs.Scale.{IsScale}
 use Rattle.road_types.specs.declared.road.Road.{Road}
 use Rattle.road_types.specs.Road.{segment_count, block_count}
 use Rattle.plan_rules.specs.declared.plan.Plan.{Plan}
 use Rattle.plan_rules.specs.Fits.{IsModerate, IsModeratePiece}
 use Rattle.plan_rules.proofs.FitsLemmas.{fits_of_parts, pieces_of_fits, tables_of_fits, pieces_moderate, moderate_pieces, row_moderate}
-use Rattle.plan_rules.specs.FitsByParts.{IsModerateRow}
+use Rattle.plan_rules.specs.inside.FitsByParts.{IsModerateRow}
 use Rattle.text_parts.specs.Lines.{Reading, lines_of}
-use Rattle.plan_text.specs.Forms.{spelled_line}
-use Rattle.plan_text.specs.Reading.{repeat_due}
+use Rattle.plan_text.specs.LineForms.{spelled_line}
+use Rattle.plan_text.specs.inside.LineReading.{repeat_due}
 use Rattle.plan_text.specs.PlanText.{tables_of, piece_text, stages_text, plan_text, HasText}
-use Rattle.plan_text.specs.Plans.{piece_due, plan_due}
+use Rattle.plan_text.specs.inside.PlanReading.{piece_due, plan_due}
 use Rattle.plan_text.specs.Taken.{Took}
 use Rattle.plan_text.proofs.SpellsLemmas.{Spells, repeat_spells, then_ok, given_is, took_then}
-use Rattle.plan_text.proofs.PartLaws.{IsDenominator, den_spells, piece_spells, AreOpenings, opens_spells, end_spells}
+use Rattle.plan_text.proofs.PartLaws.{den_spells, piece_spells, AreOpenings, opens_spells, end_spells}
 use Rattle.plan_text.proofs.TableLemmas.{AreTables, tables_spells}
 
 pieces_spell : (n : ℕ) → Spells (repeat_due n piece_due) (flat_map piece_text) (λ pieces. (length pieces ≡ n) × All IsModeratePiece pieces)
@@ -23,7 +24,7 @@ pieces_spell n = repeat_spells piece_due piece_text IsModeratePiece piece_spells
 
 -- a plan has a text exactly where its parts are of the road
 record HasParts (road : Road) (plan : Plan) : Type 0 where
-  den : IsDenominator plan.den
+  den : IsScale plan.den
   pieces_count : length plan.pieces ≡ segment_count road
   pieces : All IsModeratePiece plan.pieces
   tables : AreTables road (tables_of plan)
@@ -34,7 +35,7 @@ parts_of_text road plan h =
     let p = pieces_of_fits road plan h.fits in
     let t = tables_of_fits road plan h.fits in
     record {
-      den = record { from = p.den_from; to = p.den_to };
+      den = p.den;
       pieces_count = p.pieces_count;
       pieces = moderate_pieces plan.pieces p.pieces;
       tables = record { cut = t.cut; fill = t.fill; right = t.right; left = t.left; roads = t.roads };
@@ -45,7 +46,7 @@ text_of_parts : (road : Road) (plan : Plan) → HasParts road plan → HasText r
 text_of_parts road plan h =
     record {
       fits = fits_of_parts road plan
-          (record { den_from = h.den.from; den_to = h.den.to; pieces_count = h.pieces_count; pieces = pieces_moderate plan.pieces h.pieces; opens = h.opens.count })
+          (record { den = h.den; pieces_count = h.pieces_count; pieces = pieces_moderate plan.pieces h.pieces; opens = h.opens.count })
           (record { cut = h.tables.cut; fill = h.tables.fill; right = h.tables.right; left = h.tables.left; roads = h.tables.roads });
       openings = h.opens.bytes;
     }

@@ -5,10 +5,10 @@ use Rattle.text_parts.specs.Lines.{Reading}
 use Rattle.road_types.specs.declared.road.Road.{Road}
 use Rattle.plan_text.specs.declared.rows.Stage.{Stage}
 use Rattle.plan_text.specs.declared.rows.Tables.{Tables}
-use Rattle.plan_text.specs.Reading.{Read, then_read, ◌>>=◌, give, repeat_due, Gives}
+use Rattle.plan_text.specs.inside.LineReading.{Read, then_read, ◌>>=◌, give, repeat_due, Gives}
 use Rattle.plan_text.specs.declared.error.TextErr.{TextErr}
 use Rattle.plan_text.specs.declared.error.TextErr.TheVariants.{Bad, NoMemory}
-use Rattle.plan_text.specs.Plans.{stage_due, tables_by_stage, tables_due}
+use Rattle.plan_text.specs.inside.PlanReading.{stage_due, tables_by_stage, tables_due}
 
 abbrev pub with_front : {A : Type 0} → List A → Result (List A × Reading) ℕ → Result (List A × Reading) ℕ
 with_front front (Err line) = Err line

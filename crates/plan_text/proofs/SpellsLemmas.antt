@@ -7,8 +7,8 @@ use Rattle.std.proofs.lemmas.List.Splits.{slice_split_at}
 use Rattle.text_parts.specs.Decimal.{IsShort}
 use Rattle.text_parts.specs.Lines.{TextLine, Reading, lines_of, bytes_of, text_of}
 use Rattle.text_parts.proofs.LinesLemmas.{lines_ended}
-use Rattle.plan_text.specs.Forms.{Form, AreOfForm, spelled_row, spelled_line, line_numbers}
-use Rattle.plan_text.specs.Reading.{Read, then_read, ◌>>=◌, give, taken, behind, next_numbers, numbers_due, repeat_due}
+use Rattle.plan_text.specs.LineForms.{Form, AreOfForm, spelled_row, spelled_line, line_numbers}
+use Rattle.plan_text.specs.inside.LineReading.{Read, then_read, ◌>>=◌, give, taken, behind, next_numbers, numbers_due, repeat_due}
 use Rattle.plan_text.specs.Taken.{Took}
 use Rattle.plan_text.proofs.WordLemmas.{IsWord, spelled_row-lacks}
 use Rattle.plan_text.proofs.FormLaws.{IsLineOf, line_is, is_line}

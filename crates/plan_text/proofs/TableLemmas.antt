@@ -6,15 +6,15 @@ use Rattle.std.proofs.lemmas.List.Elements.{All-nil, All-cons, All-head, All-tai
 use Rattle.road_types.specs.Numbered.{numbered, IsNumber}
 use Rattle.road_types.specs.declared.road.Road.{Road}
 use Rattle.road_types.specs.Road.{section_count, access_count}
-use Rattle.plan_rules.specs.FitsByParts.{IsModerateRow, IsModerateTable}
+use Rattle.plan_rules.specs.inside.FitsByParts.{IsModerateRow, IsModerateTable}
 use Rattle.plan_rules.proofs.FitsLemmas.{table_moderate}
 use Rattle.plan_text.specs.declared.rows.Stage.{Stage}
 use Rattle.plan_text.specs.declared.rows.Tables.{Tables}
 use Rattle.plan_text.specs.PlanText.{stage_text, stages_text}
 use Rattle.text_parts.specs.Lines.{lines_of}
 use Rattle.plan_text.specs.Taken.{Took}
-use Rattle.plan_text.specs.Reading.{Read, repeat_due}
-use Rattle.plan_text.specs.Plans.{tables_by_stage, stage_due, tables_due}
+use Rattle.plan_text.specs.inside.LineReading.{Read, repeat_due}
+use Rattle.plan_text.specs.inside.PlanReading.{tables_by_stage, stage_due, tables_due}
 use Rattle.plan_text.proofs.SpellsLemmas.{Spells, made_spells, repeat_spells}
 use Rattle.plan_text.proofs.PartLaws.{IsStageOf, rows_text, stage_spells}
 

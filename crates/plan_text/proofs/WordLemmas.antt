@@ -10,7 +10,7 @@ use Rattle.std.proofs.lemmas.Str.Parse.{digit_at}
 use Rattle.std.proofs.lemmas.Fmt.{decimal_is_IsNumeral_wide}
 use Rattle.text_parts.specs.Words.{words_of}
 use Rattle.text_parts.specs.Decimal.{IsShort}
-use Rattle.plan_text.specs.Forms.{spelled_row}
+use Rattle.plan_text.specs.LineForms.{spelled_row}
 
 -- no byte of the bytes is this one
 abbrev pub Lacks : ℕ → List ℕ → Type 0

@@ -5,7 +5,7 @@ use Rattle.std.specs.Fmt.{signed_decimal}
 use Rattle.std.proofs.lemmas.List.{append-nil, map-append, take_more, flat_map_more}
 use Rattle.plan_rules.specs.declared.plan.Piece.{Piece}
 use Rattle.plan_text.specs.declared.rows.Tables.{Tables}
-use Rattle.plan_text.specs.Forms.{spelled_row}
+use Rattle.plan_text.specs.LineForms.{spelled_row}
 use Rattle.plan_text.specs.PlanText.{piece_text, stage_text, stages_text}
 
 join_push : (c : ℕ) (w : List ℕ) (ws : List (List ℕ)) (v : List ℕ) → join_with_byte c (w ∷ (ws ++ (v ∷ []))) ≡ join_with_byte c (w ∷ ws) ++ (c ∷ v)

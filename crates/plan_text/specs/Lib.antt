@@ -1,8 +1,5 @@
-pub mod Forms
-pub mod Reading
+pub mod LineForms
 pub mod PlanText
-pub mod Plans
+pub mod Misfits
 pub mod Taken
-pub mod Due
-pub mod WholeText
-pub mod Answers
+pub mod inside

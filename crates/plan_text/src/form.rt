@@ -1,17 +1,15 @@
 ghost use Rattle.std.specs.Prelude.{◌≡◌, IfOk};
 ghost use Rattle.text_parts.specs.Lines.{IsOfSource};
-ghost use Rattle.plan_text.specs.Forms.{AreOfForm, line_numbers, number_of, short_numbers, so_many};
-ghost use Rattle.plan_text.specs.Reading.{Gives, numbers_due};
-ghost use Rattle.plan_text.specs.Plans.{den_form, piece_form, opens_form, end_form};
+ghost use Rattle.plan_text.specs.LineForms.{AreOfForm, line_numbers, word_number, short_numbers, so_many};
+ghost use Rattle.plan_text.specs.inside.LineReading.{Gives, numbers_due};
+ghost use Rattle.plan_text.specs.LineForms.{den_form, piece_form, opens_form, end_form};
 
 use crate::error::TextErr;
+use algebra::GREATEST_SCALE;
 use road_types::Listed;
 use std::alloc::{AllocError, Global};
 use std::marker::Model;
 use text_parts::{Line, Lines, whole};
-
-/// The greatest plan denominator.
-const DENOMINATOR_MOST: i128 = 1 << 40;
 
 /// The greatest number of thirty digits.
 const SHORT_MOST: i128 = 999_999_999_999_999_999_999_999_999_999;
@@ -26,7 +24,7 @@ pub(crate) struct Form<'a> {
 }
 
 impl<'a> Model for Form<'a> {
-    ghost use Rattle.plan_text.specs.Forms.{Form as FormOf};
+    ghost use Rattle.plan_text.specs.LineForms.{Form as FormOf};
 
     ghost Value = { FormOf };
 
@@ -54,7 +52,7 @@ impl<'a> Form<'a> {
             keyword: b"plan",
             count: 1,
             low: 1,
-            high: DENOMINATOR_MOST,
+            high: GREATEST_SCALE,
         }
     }
 
@@ -71,9 +69,9 @@ impl<'a> Form<'a> {
     }
 
     /// The number that a word spells, if it is within the range.
-    #[tactic(auto, unfolding(crate::specs::Forms::number_of))]
+    #[tactic(auto, unfolding(crate::specs::LineForms::word_number))]
     fn number(&self, word: &[u8]) -> Option<i128>
-        ensures { result ≡ number_of self.now word.now }
+        ensures { result ≡ word_number self.now word.now }
     {
         let number = whole(word)?;
         if self.low <= number && number <= self.high {
@@ -84,7 +82,7 @@ impl<'a> Form<'a> {
     }
 
     /// The numbers of a line, if it ends and is of this form.
-    #[tactic(auto, unfolding(crate::specs::Forms::line_numbers))]
+    #[tactic(auto, unfolding(crate::specs::LineForms::line_numbers))]
     pub(crate) fn numbers(
         &self,
         alloc: Global,
@@ -120,7 +118,7 @@ impl<'a> Form<'a> {
     }
 
     /// Reads the numbers of the next line, which is to be of this form.
-    #[tactic(auto, unfolding(crate::specs::Reading::numbers_due))]
+    #[tactic(auto, unfolding(crate::specs::inside::LineReading::numbers_due))]
     pub(crate) fn read(&self, alloc: Global, lines: &mut Lines) -> Result<Listed<i128>, TextErr>
         ensures due { Gives (numbers_due self.now lines.old) result lines.new }
         ensures of_source { IsOfSource lines.old }

@@ -7,8 +7,6 @@ mod form;
 mod plan;
 mod read;
 mod rows;
-#[cfg(test)]
-mod tests;
 mod write;
 
 pub use error::TextErr;

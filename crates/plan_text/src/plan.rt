@@ -1,13 +1,15 @@
 ghost use Rattle.std.specs.Prelude.{◌≡◌, ℕ, List, IfOk, Some};
 ghost use Rattle.text_parts.specs.Lines.{Reading, text_of};
 ghost use Rattle.plan_rules.specs.declared.plan.Plan.{Plan as PlanOf};
-ghost use Rattle.plan_text.specs.Answers.{IfBad, StartsWithPlan};
-ghost use Rattle.plan_text.specs.Due.{first_misfit, refused_line};
-ghost use Rattle.plan_text.specs.Plans.{plan_due};
+ghost use Rattle.plan_text.specs.Misfits.{IfBad};
+ghost use Rattle.plan_text.specs.PlanText.{StartsWithPlan};
+ghost use Rattle.plan_text.specs.Misfits.{first_misfit, refused_line};
+ghost use Rattle.plan_text.specs.inside.PlanReading.{plan_due};
 ghost use Rattle.plan_text.specs.PlanText.{plan_text, HasText};
-ghost use Rattle.plan_text.specs.Reading.{Gives};
+ghost use Rattle.plan_text.specs.inside.LineReading.{Gives};
 ghost use Rattle.plan_text.specs.Taken.{Took};
-ghost use Rattle.plan_text.specs.WholeText.{plan_of_text, GivesPlan, IsPlanText};
+ghost use Rattle.plan_text.specs.inside.PlanReading.{plan_of_text, GivesPlan};
+ghost use Rattle.plan_text.specs.PlanText.{IsPlanText};
 
 use crate::error::TextErr;
 use crate::read;

@@ -1,8 +1,8 @@
 ghost use Rattle.std.specs.Prelude.{◌≡◌, ◌-◌, length};
 ghost use Rattle.text_parts.specs.Lines.{IsOfSource};
-ghost use Rattle.plan_text.specs.Reading.{Gives, repeat_due};
-ghost use Rattle.plan_text.specs.WholeText.{plan_of_text, GivesPlan};
-ghost use Rattle.plan_text.specs.Plans.{den_due, piece_due, stage_due, tables_due, opens_due, plan_due};
+ghost use Rattle.plan_text.specs.inside.LineReading.{Gives, repeat_due};
+ghost use Rattle.plan_text.specs.inside.PlanReading.{plan_of_text, GivesPlan};
+ghost use Rattle.plan_text.specs.inside.PlanReading.{den_due, piece_due, stage_due, tables_due, opens_due, plan_due};
 
 use crate::error::TextErr;
 use crate::form::Form;
@@ -13,7 +13,7 @@ use std::alloc::Global;
 use text_parts::Lines;
 
 /// Reads one plan text of the road from the front of the lines and leaves the rest.
-#[tactic(auto, unfolding(crate::specs::Plans::plan_due))]
+#[tactic(auto, unfolding(crate::specs::inside::PlanReading::plan_due))]
 pub(crate) fn plan(alloc: Global, road: &Road, lines: &mut Lines) -> Result<Plan, TextErr>
     ensures due { Gives (plan_due road.now lines.old) result lines.new }
     ensures of_source { IsOfSource lines.old }
@@ -36,7 +36,7 @@ pub(crate) fn plan(alloc: Global, road: &Road, lines: &mut Lines) -> Result<Plan
 }
 
 /// Reads the plan whose text the bytes are, to their last byte.
-#[tactic(auto, unfolding(crate::specs::WholeText::plan_of_text))]
+#[tactic(auto, unfolding(crate::specs::inside::PlanReading::plan_of_text))]
 pub(crate) fn whole_plan(alloc: Global, road: &Road, bytes: &[u8]) -> Result<Plan, TextErr>
     ensures { GivesPlan (plan_of_text road.now bytes.now) result }
 {
@@ -50,7 +50,7 @@ pub(crate) fn whole_plan(alloc: Global, road: &Road, bytes: &[u8]) -> Result<Pla
     Ok(plan)
 }
 
-#[tactic(auto, unfolding(crate::specs::Plans::den_due))]
+#[tactic(auto, unfolding(crate::specs::inside::PlanReading::den_due))]
 fn denominator(alloc: Global, lines: &mut Lines) -> Result<i128, TextErr>
     ensures due { Gives (den_due lines.old) result lines.new }
     ensures of_source { IsOfSource lines.old }
@@ -59,7 +59,7 @@ fn denominator(alloc: Global, lines: &mut Lines) -> Result<i128, TextErr>
     Ok(numbers.as_slice()[0])
 }
 
-#[tactic(auto, unfolding(crate::specs::Plans::piece_due))]
+#[tactic(auto, unfolding(crate::specs::inside::PlanReading::piece_due))]
 fn piece(alloc: Global, lines: &mut Lines) -> Result<Piece, TextErr>
     ensures { Gives (piece_due lines.old) result lines.new }
 {
@@ -82,7 +82,7 @@ fn pieces(alloc: Global, count: usize, lines: &mut Lines) -> Result<Listed<Piece
     Ok(Listed::new(pieces))
 }
 
-#[tactic(auto, unfolding(crate::specs::Plans::stage_due))]
+#[tactic(auto, unfolding(crate::specs::inside::PlanReading::stage_due))]
 fn stage(alloc: Global, road: &Road, lines: &mut Lines) -> Result<Stage, TextErr>
     ensures { Gives (stage_due road.now lines.old) result lines.new }
 {
@@ -127,7 +127,7 @@ fn tables(alloc: Global, road: &Road, lines: &mut Lines) -> Result<Tables, TextE
     })
 }
 
-#[tactic(auto, unfolding(crate::specs::Plans::opens_due))]
+#[tactic(auto, unfolding(crate::specs::inside::PlanReading::opens_due))]
 fn openings(alloc: Global, blocks: usize, lines: &mut Lines) -> Result<Listed<u8>, TextErr>
     ensures { Gives (opens_due blocks lines.old) result lines.new }
 {

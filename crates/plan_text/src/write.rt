@@ -2,37 +2,43 @@ ghost use Rattle.std.specs.Prelude.{◌≡◌, ◌<◌, ◌++◌, ◌∷◌, [],
 ghost use Rattle.std.specs.List.{flat_map};
 ghost use Rattle.road_types.specs.Numbered.{numbered};
 ghost use Rattle.plan_rules.specs.Fits.{Fits};
-ghost use Rattle.plan_text.specs.Answers.{StandsApart};
-ghost use Rattle.plan_text.specs.Forms.{spelled_line};
-ghost use Rattle.plan_text.specs.PlanText.{plan_text, piece_text, stages_text, tables_of, AreBytes};
+ghost use Rattle.plan_text.specs.LineForms.{spelled_line};
+ghost use Rattle.plan_text.specs.PlanText.{plan_text, piece_text, stages_text, tables_of, AreBytes, HasText, AreApart};
 
 use plan_rules::{Piece, Plan};
 use road_types::{Listed, Road};
 use std::alloc::{AllocError, Global};
 
-/// Appends the text of the plan; after want of memory `out` is as before.
-pub fn write_plan(road: &Road, plan: &Plan, out: &mut Vec<u8>) -> Result<(), AllocError>
+/// Appends the text of the plan, which `read_plan` takes in again whatever follows it; after want of memory `out` is as before.
+pub fn write_plan(
+    alloc: Global,
+    road: &Road,
+    plan: &Plan,
+    out: &mut Vec<u8>,
+) -> Result<(), AllocError>
     requires { Fits road.now plan.now }
     ensures ok { OnOk result (out.new.items ≡ out.old.items ++ plan_text road.now plan.now) }
-    ensures apart { OnOk result (StandsApart road.now plan.now) }
     ensures err { OnErr result (out.new.items ≡ out.old.items) }
+    ensures has_text { HasText road.now plan.now }
+    ensures apart { AreApart road.now }
 {
-    let text = text_of(*out.allocator(), road, plan)?;
+    let text = text_of(alloc, road, plan, plan.opens.as_slice())?;
     out.extend_from_slice(text.as_slice())
 }
 
-/// The text of the plan.
+/// The text of the plan, whose openings are these.
 #[tactic(auto, unfolding(crate::specs::PlanText::plan_text))]
-fn text_of(alloc: Global, road: &Road, plan: &Plan) -> Result<Vec<u8>, AllocError>
-    requires { Fits road.now plan.now }
+fn text_of(alloc: Global, road: &Road, plan: &Plan, opens: &[u8]) -> Result<Vec<u8>, AllocError>
+    requires fits { Fits road.now plan.now }
+    requires opens { opens.now ≡ plan.now.opens }
     ensures text { IfOk result (λ text. text.items ≡ plan_text road.now plan.now) }
-    ensures bytes { OnOk result (AreBytes plan.now.opens) }
+    ensures bytes { AreBytes plan.now.opens }
 {
     let mut text = Vec::new(alloc);
     push_line(alloc, b"plan", &[plan.den], &mut text)?;
     push_pieces(alloc, plan.pieces.as_slice(), &mut text)?;
     push_stages(alloc, road, plan, &mut text)?;
-    push_openings(alloc, plan.opens.as_slice(), &mut text)?;
+    push_openings(alloc, opens, &mut text)?;
     push_line(alloc, b"end", &[], &mut text)?;
     Ok(text)
 }
@@ -108,16 +114,14 @@ fn push_row(
 
 /// The openings on a line.
 fn push_openings(alloc: Global, opens: &[u8], text: &mut Vec<u8>) -> Result<(), AllocError>
-    ensures text { OnOk result (text.new.items ≡ text.old.items ++ spelled_line (codes "open") (map pos opens.now)) }
-    ensures bytes { OnOk result (AreBytes opens.now) }
+    ensures { OnOk result (text.new.items ≡ text.old.items ++ spelled_line (codes "open") (map pos opens.now)) }
 {
     let stages = widened(alloc, opens)?;
     push_line(alloc, b"open", stages.as_slice(), text)
 }
 
 fn widened(alloc: Global, opens: &[u8]) -> Result<Vec<i128>, AllocError>
-    ensures numbers { IfOk result (λ numbers. numbers.items ≡ map pos opens.now) }
-    ensures bytes { AreBytes opens.now }
+    ensures { IfOk result (λ numbers. numbers.items ≡ map pos opens.now) }
 {
     opens.iter().map(|stage| i128::from(*stage)).collect(alloc)
 }

@@ -1,10 +1,10 @@
 -- The rows of a program whose terms, sides and right sides are listed apart.
-use Rattle.std.proofs.Common.{◌≡◌, ℕ, zero, suc, ◌-◌, ◌<◌, ◌≤◌, List, [], ◌∷◌, length, get_or, arith, ap, sym, ◌∙◌, refl}
+use Rattle.std.proofs.Common.{◌≡◌, ℕ, zero, suc, ◌-◌, ◌<◌, ◌≤◌, List, [], ◌∷◌, ◌++◌, length, get_or, map, arith, ap, sym, ◌∙◌, refl}
 use Rattle.std.specs.Prelude.{ℤ}
 use Rattle.std.proofs.lemmas.List.{get_or_default}
 use Rattle.term_store.specs.declared.term.Term.{Term}
 use Rattle.term_store.specs.declared.side.Side.{Side}
-use Rattle.programs.specs.Numbered.{numbered}
+use Rattle.algebra.specs.Numbered.{numbered}
 use Rattle.programs.specs.Programs.{ProgramRow, empty_row, rows_of}
 
 -- there are as many rows as lists of terms, where there are as many sides and right sides
@@ -32,3 +32,19 @@ row_of_parts rows sides rights (suc k) terms side right p q low l a b c =
     (rw (sym e) (a ∙ get_or_default rows (suc k - 1) [] terms l))
     (rw (sym e) b)
     (rw (sym e) c)
+
+-- rows that follow others follow them in each list
+pub rows_of-append : (rows more : List (List (Term ℤ))) (sides after : List Side) (rights behind : List ℤ) → length sides ≡ length rows → length rights ≡ length rows → rows_of (rows ++ more) (sides ++ after) (rights ++ behind) ≡ rows_of rows sides rights ++ rows_of more after behind
+rows_of-append [] more [] after [] behind p q = refl
+rows_of-append [] more (s ∷ ss) after rights behind p q = absurd (omega arith)
+rows_of-append [] more [] after (r ∷ rs) behind p q = absurd (omega arith)
+rows_of-append (t ∷ ts) more [] after rights behind p q = absurd (omega arith)
+rows_of-append (t ∷ ts) more (s ∷ ss) after [] behind p q = absurd (omega arith)
+rows_of-append (t ∷ ts) more (s ∷ ss) after (r ∷ rs) behind p q =
+    ap (λ rest. record { terms = t; side = s; right = r } ∷ rest) (rows_of-append ts more ss after rs behind (omega arith) (omega arith))
+
+-- the rows whose parts are made from one list
+pub rows_of-map : {A : Type 0} (terms : A → List (Term ℤ)) (side : A → Side) (right : A → ℤ) (xs : List A) → rows_of (map terms xs) (map side xs) (map right xs) ≡ map (λ x. record { terms = terms x; side = side x; right = right x }) xs
+rows_of-map terms side right [] = refl
+rows_of-map terms side right (x ∷ xs) =
+    ap (λ rest. record { terms = terms x; side = side x; right = right x } ∷ rest) (rows_of-map terms side right xs)

@@ -1,5 +1,3 @@
-pub mod Numbered
-pub mod Totals
 pub mod Programs
 pub mod Points
 pub mod Weights

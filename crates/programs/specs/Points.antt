@@ -6,7 +6,7 @@ use Rattle.algebra.specs.Sums.{sum_to}
 use Rattle.term_store.specs.declared.term.Term.{Term}
 use Rattle.term_store.specs.declared.side.Side.{Side}
 use Rattle.term_store.specs.declared.side.Side.TheVariants.{Equal, AtLeast}
-use Rattle.programs.specs.Numbered.{numbered, IsNumber}
+use Rattle.algebra.specs.Numbered.{numbered, IsNumber}
 use Rattle.programs.specs.Programs.{Program, ProgramRow, column_count, bounds_at, cost_at}
 
 -- the point's numerator at column j
@@ -19,17 +19,17 @@ value_at point [] = pos 0
 value_at point (t ∷ ts) = t.value *ℤ numerator_at point t.column +ℤ value_at point ts
 
 -- a sum is what the side asks of it
-abbrev pub Holds : Side → ℤ → ℤ → Type 0
-Holds Equal value right = value ≡ right
-Holds AtLeast value right = right ≤ℤ value
+abbrev pub Satisfies : Side → ℤ → ℤ → Type 0
+Satisfies Equal value right = value ≡ right
+Satisfies AtLeast value right = right ≤ℤ value
 
 -- a row holds at a point over den: its sum equals, or is at least, den times its right side
-abbrev pub HoldsAt : ℤ → List ℤ → ProgramRow → Type 0
-HoldsAt den point row = Holds row.side (value_at point row.terms) (den *ℤ row.right)
+abbrev pub MeetsRow : ℤ → List ℤ → ProgramRow → Type 0
+MeetsRow den point row = Satisfies row.side (value_at point row.terms) (den *ℤ row.right)
 
 -- every row holds at the point over den
 abbrev pub MeetsRows : Program → ℤ → List ℤ → Type 0
-MeetsRows program den point = All (HoldsAt den point) program.rows
+MeetsRows program den point = All (MeetsRow den point) program.rows
 
 -- den times the bounds of column j are bounds of the point's numerator there
 pub record IsInBoundsAt (program : Program) (den : ℤ) (point : List ℤ) (j : ℕ) : Type 0 where

@@ -4,7 +4,7 @@ use Rattle.std.specs.Prelude.{ℕ, List, [], ◌∷◌, length, ℤ, pos, ◌+�
 use Rattle.term_store.specs.declared.term.Term.{Term}
 use Rattle.term_store.specs.declared.side.Side.{Side}
 use Rattle.term_store.specs.declared.side.Side.TheVariants.{Equal}
-use Rattle.programs.specs.Numbered.{numbered}
+use Rattle.algebra.specs.Numbered.{numbered}
 
 -- a row asks that the sum of its terms equals, or is at least, its right side
 pub record ProgramRow : Type 0 where
@@ -40,10 +40,14 @@ empty_row = record { terms = []; side = Equal; right = pos 0 }
 abbrev pub row_at : Program → ℕ → ProgramRow
 row_at program i = numbered empty_row program.rows i
 
--- the coefficient of column j in a row's terms: the sum of its terms' values there
+-- what one term has at column j
+abbrev pub entry : ℕ → Term ℤ → ℤ
+entry j t = if t.column == j then t.value else pos 0
+
+-- the coefficient of column j in a row's terms
 abbrev pub coefficient : ℕ → List (Term ℤ) → ℤ
 coefficient j [] = pos 0
-coefficient j (t ∷ ts) = (if t.column == j then t.value else pos 0) +ℤ coefficient j ts
+coefficient j (t ∷ ts) = entry j t +ℤ coefficient j ts
 
 -- the rows whose terms, sides and right sides are listed apart
 abbrev pub rows_of : List (List (Term ℤ)) → List Side → List ℤ → List ProgramRow

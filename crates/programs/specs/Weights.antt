@@ -1,13 +1,13 @@
 -- The weight of a program: what bounds every sum that is formed over its rows and columns.
-use Rattle.std.specs.Prelude.{ℕ, ◌+◌, ◌*◌, max, List, [], ◌∷◌, ℤ, unsigned_abs, ◌==◌, if◌then◌else◌}
+use Rattle.std.specs.Prelude.{ℕ, ◌+◌, ◌*◌, max, List, [], ◌∷◌, ℤ, unsigned_abs}
 use Rattle.term_store.specs.declared.term.Term.{Term}
-use Rattle.programs.specs.Totals.{total_to}
-use Rattle.programs.specs.Programs.{Program, ProgramRow, column_count, bounds_at, cost_at}
+use Rattle.algebra.specs.Totals.{total_to}
+use Rattle.programs.specs.Programs.{Program, ProgramRow, column_count, bounds_at, cost_at, entry}
 
 -- the sum of the magnitudes that a row's terms have at column j
 abbrev pub load_of_terms : ℕ → List (Term ℤ) → ℕ
 load_of_terms j [] = 0
-load_of_terms j (t ∷ ts) = (if t.column == j then unsigned_abs t.value else 0) + load_of_terms j ts
+load_of_terms j (t ∷ ts) = unsigned_abs (entry j t) + load_of_terms j ts
 
 -- the sum of the magnitudes of column j's coefficients in all rows
 abbrev pub load_of_rows : ℕ → List ProgramRow → ℕ

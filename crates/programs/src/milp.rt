@@ -1,6 +1,6 @@
 // A program in memory, and the view of one of its rows.
 ghost use Rattle.std.specs.Prelude.{◌≡◌, length};
-ghost use Rattle.programs.specs.Numbered.{IsNumber};
+ghost use Rattle.algebra.specs.Numbered.{IsNumber};
 ghost use Rattle.programs.specs.Programs.{Program, bounds_at, column_count, cost_at, row_at, row_count, rows_of};
 ghost use Rattle.programs.specs.Limits.{IsWithinLimits};
 

@@ -9,7 +9,7 @@ use Rattle.road_types.specs.declared.fault.Fault.{Fault}
 use Rattle.road_types.specs.declared.fault.Fault.TheVariants.{F5}
 use Rattle.road_file.specs.declared.error.RoadErr.{RoadErr}
 use Rattle.road_file.specs.declared.error.RoadErr.TheVariants.{Refused, NoMemory}
-use Rattle.road_file.specs.Step.{◌>>=◌, Answers}
+use Rattle.road_file.specs.Step.{◌>>=◌, MayAnswer}
 use Rattle.road_file.specs.Kinds.{both_of, two_of, each_of}
 
 pub two_items : (vs : List Value) (a b : Value) → length vs ≡ 2 → a ≡ get_or vs 0 a → b ≡ get_or vs 1 b → two_of (items_view vs) ≡ both_of (view a) (view b)
@@ -60,8 +60,8 @@ each_of-stop reads done vs i v fault due within at so_far e =
     sym so_far ∙ ap (λ items. after done (each_of reads items)) (items_view-drop vs i v within) ∙ each_of-err reads done (view (get_or vs i v)) fault (items_view (drop (i + 1) vs)) next
 
 pub each_of-answers : {A : Type 0} (reads : Data → Result A Fault) (done : List A) (vs : List Value) (i : ℕ) (v : Value) (e : RoadErr) (due : Result (List A) Fault)
-    → i < length vs → v ≡ get_or vs i v → after done (each_of reads (items_view (drop i vs))) ≡ due → Answers {A = A} (Err e) (reads (view v))
-    → Answers {A = List A} (Err e) due
+    → i < length vs → v ≡ get_or vs i v → after done (each_of reads (items_view (drop i vs))) ≡ due → MayAnswer {A = A} (Err e) (reads (view v))
+    → MayAnswer {A = List A} (Err e) due
 each_of-answers reads done vs i v (Refused fault) due within at so_far h = each_of-stop reads done vs i v fault due within at so_far h
 each_of-answers reads done vs i v NoMemory due within at so_far h = tt
 

@@ -5,3 +5,4 @@ pub mod Records
 pub mod Ranges
 pub mod Names
 pub mod RoadOf
+pub mod inside

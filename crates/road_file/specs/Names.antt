@@ -1,8 +1,6 @@
 -- The numbers of pits by their names.
-use Rattle.std.specs.Prelude.{◌≡◌, ℕ, suc, if◌then◌else◌, List, [], ◌∷◌, unwrap_or}
+use Rattle.std.specs.Prelude.{ℕ, suc, if◌then◌else◌, List, [], ◌∷◌}
 use Rattle.std.specs.Str.{bytes_eq}
-use Rattle.std.specs.Borrow.{Bor}
-use Rattle.indexmap.specs.IndexMap.{IndexMap, get_by}
 use Rattle.road_file.specs.declared.file.FilePit.{FilePit}
 
 -- the number of the first pit with a name, where the numbers begin with this one; 0 where no pit has the name
@@ -12,7 +10,3 @@ number_from first name (p ∷ pits) = if bytes_eq p.name name then first else nu
 
 unfoldable pub pit_number : List ℕ → List FilePit → ℕ
 pit_number name pits = number_from 1 name pits
-
--- a map has the number of every name that a pit has, and no other name
-abbrev pub IsNumbering : {S : Type 0} → List FilePit → IndexMap (Bor (List ℕ)) ℕ S → Type 0
-IsNumbering pits numbers = (name : List ℕ) → unwrap_or (get_by (λ k. bytes_eq name k.now) numbers) 0 ≡ pit_number name pits

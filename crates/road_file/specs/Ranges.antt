@@ -2,7 +2,7 @@
 use Rattle.std.specs.Prelude.{ℕ, nat_le, codes, pos, Bool, true, ◌&&◌, ◌||◌, List, length, Option, Some, None}
 use Rattle.std.specs.List.{list_all}
 use Rattle.std.specs.Str.{bytes_eq}
-use Rattle.road_types.specs.Faults.{is_within, is_station, is_height, is_curve, is_cost, is_cap, is_step, is_name, section_in_range, hop_in_range, fixed_in_range, grades_in_range}
+use Rattle.road_types.specs.RecordFaults.{is_between, is_station, is_height, is_curve, is_cost, is_cap, is_step, is_name, section_in_range, hop_in_range, fixed_in_range, grades_in_range}
 use Rattle.road_file.specs.declared.file.FilePit.{FilePit}
 use Rattle.road_file.specs.declared.file.FileAccess.{FileAccess}
 use Rattle.road_file.specs.declared.file.FileBlock.{FileBlock}
@@ -39,7 +39,7 @@ lists_in_range file =
 
 abbrev pub scales_in_range : RoadFile → Bool
 scales_in_range file =
-    is_within (pos 1) (pos 1) file.version && is_step file.step && is_within (pos 1) (pos 4) file.stages && list_all is_station file.knots
+    is_between (pos 1) (pos 1) file.version && is_step file.step && is_between (pos 1) (pos 4) file.stages && list_all is_station file.knots
 
 abbrev pub limits_in_range : RoadFile → Bool
 limits_in_range file = is_height file.low && is_height file.high && grades_in_range file.grade && is_curve file.curve

@@ -4,6 +4,7 @@ use Rattle.std.specs.Str.{is_utf8}
 use Rattle.toml.specs.Data.{Members}
 use Rattle.toml.specs.Parse.{parse_document}
 use Rattle.road_types.specs.Faults.{road_fault}
+use Rattle.road_types.specs.Limits.{longest_file}
 use Rattle.road_types.specs.declared.fault.Fault.{Fault}
 use Rattle.road_types.specs.declared.fault.Fault.TheVariants.{F0, F1, F2, F3, F4, F6}
 use Rattle.road_types.specs.declared.road.Hop.{Hop}
@@ -23,10 +24,10 @@ use Rattle.road_file.specs.Records.{file_of}
 use Rattle.road_file.specs.Names.{pit_number}
 use Rattle.road_file.specs.Ranges.{is_borrow, file_in_range}
 
--- the text of a file, which has at most 4 MiB of UTF-8
+-- the text of a file, which is not too long and is UTF-8
 unfoldable pub text_in : List ℕ → Result (List ℕ) Fault
 text_in bytes = do
-  bytes ← where_kept (nat_le (length bytes) 4194304) F1 bytes
+  bytes ← where_kept (nat_le (length bytes) longest_file) F1 bytes
   where_kept (is_utf8 bytes) F2 bytes
 
 -- the document of a text
@@ -48,10 +49,10 @@ contents_of bytes = do
   file ← file_of root
   where_kept (file_in_range file) F6 file
 
--- the number of an entry; below 1 there is none, which is 0
-abbrev pub number_of : ℤ → ℕ
-number_of (pos n) = n
-number_of (negsuc n) = 0
+-- a whole number as a count or an entry's number; below 1 there is none, which is 0
+abbrev pub natural_or_zero : ℤ → ℕ
+natural_or_zero (pos n) = n
+natural_or_zero (negsuc n) = 0
 
 abbrev pub kind_of : List ℕ → PitKind
 kind_of kind = if is_borrow kind then Borrow else Waste
@@ -61,13 +62,13 @@ pit_from p = record { name = p.name; kind = kind_of p.kind; capacity = p.capacit
 
 -- an access road, with its pit by number
 unfoldable pub access_to : ℕ → FileAccess → Access
-access_to pit a = record { pit = pit; section = number_of a.section; cost = a.cost; max = a.max }
+access_to pit a = record { pit = pit; section = natural_or_zero a.section; cost = a.cost; max = a.max }
 
 abbrev pub access_from : List FilePit → FileAccess → Access
 access_from pits a = access_to (pit_number a.pit pits) a
 
 unfoldable pub block_from : FileBlock → Block
-block_from b = record { section = number_of b.section; cost = b.cost }
+block_from b = record { section = natural_or_zero b.section; cost = b.cost }
 
 -- one entry stands for the hops between all neighbours among the sections
 unfoldable pub hops_between : ℕ → List Hop → List Hop
@@ -78,7 +79,7 @@ unfoldable pub road_from : RoadFile → Road
 road_from file =
     record {
       step = file.step;
-      stages = number_of file.stages;
+      stages = natural_or_zero file.stages;
       knots = file.knots;
       low = file.low;
       high = file.high;

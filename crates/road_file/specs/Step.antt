@@ -15,13 +15,13 @@ abbrev pub where_kept : {A : Type 0} → Bool → Fault → A → Result A Fault
 where_kept rule fault x = if rule then Ok x else Err fault
 
 -- what may be answered where this is due: its value, or its fault; want of memory may be answered wherever it comes
-abbrev pub Answers : {A : Type 0} → Result A RoadErr → Result A Fault → Type 0
-Answers (Ok x) due = due ≡ Ok x
-Answers (Err (Refused fault)) due = due ≡ Err fault
-Answers (Err NoMemory) due = Unit {0}
+abbrev pub MayAnswer : {A : Type 0} → Result A RoadErr → Result A Fault → Type 0
+MayAnswer (Ok x) due = due ≡ Ok x
+MayAnswer (Err (Refused fault)) due = due ≡ Err fault
+MayAnswer (Err NoMemory) due = Unit {0}
 
 -- the same of a value that stands for what is due
-abbrev pub AnswersAs : {A B : Type 0} → (A → B) → Result A RoadErr → Result B Fault → Type 0
-AnswersAs stands_for (Ok x) due = due ≡ Ok (stands_for x)
-AnswersAs stands_for (Err (Refused fault)) due = due ≡ Err fault
-AnswersAs stands_for (Err NoMemory) due = Unit {0}
+abbrev pub MayAnswerAs : {A B : Type 0} → (A → B) → Result A RoadErr → Result B Fault → Type 0
+MayAnswerAs stands_for (Ok x) due = due ≡ Ok (stands_for x)
+MayAnswerAs stands_for (Err (Refused fault)) due = due ≡ Err fault
+MayAnswerAs stands_for (Err NoMemory) due = Unit {0}

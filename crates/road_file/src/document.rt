@@ -3,21 +3,18 @@ ghost use Rattle.std.specs.Prelude.{◌≡◌, Result, Ok, Err, MatchResult};
 ghost use Rattle.toml.specs.Parse.{parse_document};
 ghost use Rattle.toml.specs.View.{table_view};
 ghost use Rattle.road_file.specs.RoadOf.{text_in, of_parsed, document_of};
-ghost use Rattle.road_file.specs.Step.{AnswersAs};
+ghost use Rattle.road_file.specs.Step.{MayAnswerAs};
 
 use crate::RoadErr;
-use road_types::Fault;
+use road_types::{Fault, LONGEST_FILE};
 use std::alloc::Global;
 use toml::Table;
 
-/// The greatest length of a road file, in bytes.
-const LONGEST: usize = 4_194_304;
-
 /// The text of a file; refused where it is too long or isn't UTF-8.
 fn text(bytes: &[u8]) -> Result<&str, RoadErr>
-    ensures { AnswersAs (λ s. s.now) result (text_in bytes.now) }
+    ensures { MayAnswerAs (λ s. s.now) result (text_in bytes.now) }
 {
-    if bytes.len() > LONGEST {
+    if bytes.len() > LONGEST_FILE {
         return Err(RoadErr::Refused(Fault::F1));
     }
     match std::str::from_utf8(bytes) {
@@ -27,7 +24,7 @@ fn text(bytes: &[u8]) -> Result<&str, RoadErr>
 }
 
 fn parsed(alloc: Global, text: &str) -> Result<Table, RoadErr>
-    ensures { AnswersAs table_view result (of_parsed (parse_document text.now)) }
+    ensures { MayAnswerAs table_view result (of_parsed (parse_document text.now)) }
 {
     match toml::table_from_str(alloc, text) {
         Ok(table) => Ok(table),
@@ -44,7 +41,7 @@ fn parsed(alloc: Global, text: &str) -> Result<Table, RoadErr>
 /// The document of a file; refused where the file is too long, isn't UTF-8 or isn't a document.
 #[tactic(auto, unfolding(crate::specs::RoadOf::document_of))]
 pub(crate) fn document(alloc: Global, bytes: &[u8]) -> Result<Table, RoadErr>
-    ensures { AnswersAs table_view result (document_of bytes.now) }
+    ensures { MayAnswerAs table_view result (document_of bytes.now) }
 {
     parsed(alloc, text(bytes)?)
 }

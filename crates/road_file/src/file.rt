@@ -1,7 +1,7 @@
 // What a road file says, each value of its kind.
 ghost use Rattle.std.specs.Prelude.{◌≡◌, codes};
 ghost use Rattle.toml.specs.View.{view, table_view};
-ghost use Rattle.road_file.specs.Step.{Answers};
+ghost use Rattle.road_file.specs.Step.{MayAnswer};
 ghost use Rattle.road_file.specs.Kinds.{table_of};
 
 use crate::RoadErr;
@@ -188,7 +188,7 @@ impl RoadFile {
     /// Reads the values of a document; refused by the fault of a value that isn't of its kind.
     #[tactic(auto, unfolding(crate::specs::Records::file_of))]
     pub(crate) fn read(alloc: Global, root: &Table) -> Result<Self, RoadErr>
-        ensures { Answers result (file_of (table_view root.now)) }
+        ensures { MayAnswer result (file_of (table_view root.now)) }
     {
         Ok(RoadFile {
             version: whole_at(root, "version")?,

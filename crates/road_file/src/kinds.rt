@@ -3,7 +3,7 @@ ghost use Rattle.std.specs.Prelude.{◌≡◌, Option, Result, Ok, Err, option_m
 ghost use Rattle.toml.specs.Data.{Data, get_member};
 ghost use Rattle.toml.specs.View.{view, table_view, array_view};
 ghost use Rattle.road_types.specs.declared.fault.Fault.{Fault};
-ghost use Rattle.road_file.specs.Step.{Answers, AnswersAs};
+ghost use Rattle.road_file.specs.Step.{MayAnswer, MayAnswerAs};
 ghost use Rattle.road_file.specs.Kinds.{whole_of, text_of, table_of, items_of, both_of, two_of, pair_of, each_of, list_of, whole_at, text_at, pair_at, list_at, whole_or, text_or_none, list_or_empty};
 
 use crate::RoadErr;
@@ -18,7 +18,7 @@ pub(crate) trait FromValue {
 
     /// Refused where a value isn't of its kind.
     fn from_value(alloc: Global, value: &Value) -> Result<Self, RoadErr>
-        ensures { Answers result (reads (view value.now)) };
+        ensures { MayAnswer result (reads (view value.now)) };
 }
 
 impl FromValue for i64 {
@@ -30,7 +30,7 @@ impl FromValue for i64 {
 }
 
 fn whole(value: &Value) -> Result<i64, RoadErr>
-    ensures { Answers result (whole_of (view value.now)) }
+    ensures { MayAnswer result (whole_of (view value.now)) }
 {
     match value.as_integer() {
         Some(number) => Ok(number),
@@ -39,7 +39,7 @@ fn whole(value: &Value) -> Result<i64, RoadErr>
 }
 
 fn text(alloc: Global, value: &Value) -> Result<Text, RoadErr>
-    ensures { Answers result (text_of (view value.now)) }
+    ensures { MayAnswer result (text_of (view value.now)) }
 {
     match value.as_str() {
         Some(text) => Ok(Text::new(String::from_str(alloc, text)?)),
@@ -48,7 +48,7 @@ fn text(alloc: Global, value: &Value) -> Result<Text, RoadErr>
 }
 
 pub(crate) fn table(value: &Value) -> Result<&Table, RoadErr>
-    ensures { AnswersAs (λ t. table_view t.now) result (table_of (view value.now)) }
+    ensures { MayAnswerAs (λ t. table_view t.now) result (table_of (view value.now)) }
 {
     match value.as_table() {
         Some(table) => Ok(table),
@@ -57,7 +57,7 @@ pub(crate) fn table(value: &Value) -> Result<&Table, RoadErr>
 }
 
 fn items(value: &Value) -> Result<&Array, RoadErr>
-    ensures { AnswersAs (λ v. array_view v.now) result (items_of (view value.now)) }
+    ensures { MayAnswerAs (λ v. array_view v.now) result (items_of (view value.now)) }
 {
     match value.as_array() {
         Some(items) => Ok(items),
@@ -66,14 +66,14 @@ fn items(value: &Value) -> Result<&Array, RoadErr>
 }
 
 fn both(first: &Value, second: &Value) -> Result<(i64, i64), RoadErr>
-    ensures { Answers result (both_of (view first.now) (view second.now)) }
+    ensures { MayAnswer result (both_of (view first.now) (view second.now)) }
 {
     Ok((whole(first)?, whole(second)?))
 }
 
 #[tactic(auto, using(crate::proofs::ItemsLemmas::two_items, crate::proofs::ItemsLemmas::other_items))]
 fn two(items: &Array) -> Result<(i64, i64), RoadErr>
-    ensures { Answers result (two_of (array_view items.now)) }
+    ensures { MayAnswer result (two_of (array_view items.now)) }
 {
     if items.len() == 2 {
         both(&items[0], &items[1])
@@ -84,13 +84,13 @@ fn two(items: &Array) -> Result<(i64, i64), RoadErr>
 
 #[tactic(auto, unfolding(crate::specs::Kinds::pair_of))]
 pub(crate) fn pair(value: &Value) -> Result<(i64, i64), RoadErr>
-    ensures { Answers result (pair_of (view value.now)) }
+    ensures { MayAnswer result (pair_of (view value.now)) }
 {
     two(items(value)?)
 }
 
 fn each<T: FromValue + Drop>(alloc: Global, items: &Array) -> Result<Listed<T>, RoadErr>
-    ensures { Answers result (each_of T.reads (array_view items.now)) }
+    ensures { MayAnswer result (each_of T.reads (array_view items.now)) }
 {
     let mut values = Vec::new(alloc);
     for item in items {
@@ -101,7 +101,7 @@ fn each<T: FromValue + Drop>(alloc: Global, items: &Array) -> Result<Listed<T>, 
 
 #[tactic(auto, unfolding(crate::specs::Kinds::list_of))]
 fn list<T: FromValue + Drop>(alloc: Global, value: &Value) -> Result<Listed<T>, RoadErr>
-    ensures { Answers result (list_of T.reads (view value.now)) }
+    ensures { MayAnswer result (list_of T.reads (view value.now)) }
 {
     each(alloc, items(value)?)
 }
@@ -115,7 +115,7 @@ pub(crate) fn find<'a>(table: &'a Table, key: &str) -> Option<&'a Value>
 
 #[tactic(auto, unfolding(crate::specs::Kinds::whole_at))]
 pub(crate) fn whole_at(table: &Table, key: &str) -> Result<i64, RoadErr>
-    ensures { Answers result (whole_at key.now (table_view table.now)) }
+    ensures { MayAnswer result (whole_at key.now (table_view table.now)) }
 {
     match find(table, key) {
         Some(value) => whole(value),
@@ -125,7 +125,7 @@ pub(crate) fn whole_at(table: &Table, key: &str) -> Result<i64, RoadErr>
 
 #[tactic(auto, unfolding(crate::specs::Kinds::text_at))]
 pub(crate) fn text_at(alloc: Global, table: &Table, key: &str) -> Result<Text, RoadErr>
-    ensures { Answers result (text_at key.now (table_view table.now)) }
+    ensures { MayAnswer result (text_at key.now (table_view table.now)) }
 {
     match find(table, key) {
         Some(value) => text(alloc, value),
@@ -135,7 +135,7 @@ pub(crate) fn text_at(alloc: Global, table: &Table, key: &str) -> Result<Text, R
 
 #[tactic(auto, unfolding(crate::specs::Kinds::pair_at))]
 pub(crate) fn pair_at(table: &Table, key: &str) -> Result<(i64, i64), RoadErr>
-    ensures { Answers result (pair_at key.now (table_view table.now)) }
+    ensures { MayAnswer result (pair_at key.now (table_view table.now)) }
 {
     match find(table, key) {
         Some(value) => pair(value),
@@ -149,7 +149,7 @@ pub(crate) fn list_at<T: FromValue + Drop>(
     table: &Table,
     key: &str,
 ) -> Result<Listed<T>, RoadErr>
-    ensures { Answers result (list_at T.reads key.now (table_view table.now)) }
+    ensures { MayAnswer result (list_at T.reads key.now (table_view table.now)) }
 {
     match find(table, key) {
         Some(value) => list(alloc, value),
@@ -160,7 +160,7 @@ pub(crate) fn list_at<T: FromValue + Drop>(
 /// The number at a key, or the other one where the key is missing.
 #[tactic(auto, unfolding(crate::specs::Kinds::whole_or))]
 pub(crate) fn whole_or(other: i64, table: &Table, key: &str) -> Result<i64, RoadErr>
-    ensures { Answers result (whole_or other key.now (table_view table.now)) }
+    ensures { MayAnswer result (whole_or other key.now (table_view table.now)) }
 {
     match find(table, key) {
         Some(value) => whole(value),
@@ -170,7 +170,7 @@ pub(crate) fn whole_or(other: i64, table: &Table, key: &str) -> Result<i64, Road
 
 #[tactic(auto, unfolding(crate::specs::Kinds::text_or_none))]
 pub(crate) fn text_or_none(alloc: Global, table: &Table, key: &str) -> Result<Option<Text>, RoadErr>
-    ensures { Answers result (text_or_none key.now (table_view table.now)) }
+    ensures { MayAnswer result (text_or_none key.now (table_view table.now)) }
 {
     match find(table, key) {
         Some(value) => Ok(Some(text(alloc, value)?)),
@@ -184,7 +184,7 @@ pub(crate) fn list_or_empty<T: FromValue + Drop>(
     table: &Table,
     key: &str,
 ) -> Result<Listed<T>, RoadErr>
-    ensures { Answers result (list_or_empty T.reads key.now (table_view table.now)) }
+    ensures { MayAnswer result (list_or_empty T.reads key.now (table_view table.now)) }
 {
     match find(table, key) {
         Some(value) => list(alloc, value),

@@ -12,6 +12,3 @@ mod reader;
 
 pub use error::RoadErr;
 pub use reader::read_road;
-
-#[cfg(test)]
-mod tests;

@@ -3,9 +3,9 @@ ghost use Rattle.std.specs.Prelude.{◌≡◌, IfOk, MatchResult, IsTrue, false,
 ghost use Rattle.std.specs.Str.{bytes_eq};
 ghost use Rattle.indexmap.specs.IndexMap.{get_by};
 ghost use Rattle.road_types.specs.Faults.{road_fault};
-ghost use Rattle.road_file.specs.Step.{Answers};
-ghost use Rattle.road_file.specs.RoadOf.{number_of, kind_of, pit_from, access_to, access_from, block_from, hops_between, road_from, contents_of, of_fault, road_of};
-ghost use Rattle.road_file.specs.Names.{IsNumbering};
+ghost use Rattle.road_file.specs.Step.{MayAnswer};
+ghost use Rattle.road_file.specs.RoadOf.{natural_or_zero, kind_of, pit_from, access_to, access_from, block_from, hops_between, road_from, contents_of, of_fault, road_of};
+ghost use Rattle.road_file.specs.inside.Numbering.{IsNumbering};
 
 use crate::document::document;
 use crate::file::{FileAccess, FileBlock, FilePit, RoadFile};
@@ -15,9 +15,9 @@ use indexmap::IndexMap;
 use road_types::{Access, Block, Fault, Hop, Listed, Pit, PitKind, Road};
 use std::alloc::{AllocError, Global};
 
-/// The number of an entry; 0, which is none, below 1.
-fn number(x: i64) -> usize
-    ensures { result ≡ number_of x }
+/// A whole number as a count or an entry's number; 0, which is none, below 1.
+fn natural_or_zero(x: i64) -> usize
+    ensures { result ≡ natural_or_zero x }
 {
     if x >= 0 { x as usize } else { 0 }
 }
@@ -91,7 +91,7 @@ fn access(pit: usize, access: &FileAccess) -> Access
 {
     Access {
         pit,
-        section: number(access.section),
+        section: natural_or_zero(access.section),
         cost: access.cost,
         max: access.max,
     }
@@ -118,7 +118,7 @@ fn block(block: &FileBlock) -> Block
     ensures { result ≡ block_from block.now }
 {
     Block {
-        section: number(block.section),
+        section: natural_or_zero(block.section),
         cost: block.cost,
     }
 }
@@ -181,7 +181,7 @@ fn road(alloc: Global, file: RoadFile) -> Result<Road, AllocError>
     let pits = pits(alloc, file_pits.into_vec())?;
     Ok(Road {
         step,
-        stages: number(stages),
+        stages: natural_or_zero(stages),
         knots,
         low,
         high,
@@ -212,7 +212,7 @@ fn keep(rule: bool, fault: Fault) -> Result<(), RoadErr>
 /// What a file says, where its keys, kinds and ranges are right.
 #[tactic(auto, unfolding(crate::specs::RoadOf::contents_of))]
 fn contents(alloc: Global, bytes: &[u8]) -> Result<RoadFile, RoadErr>
-    ensures { Answers result (contents_of bytes.now) }
+    ensures { MayAnswer result (contents_of bytes.now) }
 {
     let root = document(alloc, bytes)?;
     keep(keys::is_complete(&root), Fault::F3)?;
@@ -224,7 +224,7 @@ fn contents(alloc: Global, bytes: &[u8]) -> Result<RoadFile, RoadErr>
 
 /// Refused by the first fault of a road's record.
 fn accepted(road: Road) -> Result<Road, RoadErr>
-    ensures answers { Answers result (of_fault road (road_fault road)) }
+    ensures answers { MayAnswer result (of_fault road (road_fault road)) }
     ensures accepted { IfOk result (λ r. road_fault r ≡ None) }
 {
     match road.check() {
@@ -239,7 +239,7 @@ fn accepted(road: Road) -> Result<Road, RoadErr>
 /// a road that is answered has none of them. `NoMemory` where memory is wanting.
 #[tactic(auto, unfolding(crate::specs::RoadOf::road_of))]
 pub fn read_road(alloc: Global, bytes: &[u8], _csv: Option<&[u8]>) -> Result<Road, RoadErr>
-    ensures answers { Answers result (road_of bytes.now) }
+    ensures answers { MayAnswer result (road_of bytes.now) }
     ensures accepted { IfOk result (λ road. road_fault road ≡ None) }
 {
     let file = contents(alloc, bytes)?;

@@ -43,9 +43,9 @@ at_station station [] l = absurd (omega arith)
 at_station station (x ∷ ends) l =
     ⊎_elim
     (λ b. let e = counted x station (knots_before station ends) b in
-      subst (λ (k : ℕ). station ≤ℤ get_or (x ∷ ends) k (pos 0)) (sym e) (at_station station ends (omega (arith, e))))
+    subst (λ (k : ℕ). station ≤ℤ get_or (x ∷ ends) k (pos 0)) (sym e) (at_station station ends (omega (arith, e))))
     (λ s. let e = not_counted x station (knots_before station ends) s in
-      subst (λ (k : ℕ). station ≤ℤ get_or (x ∷ ends) k (pos 0)) (sym e) s)
+    subst (λ (k : ℕ). station ≤ℤ get_or (x ∷ ends) k (pos 0)) (sym e) s)
     (order_cases x station)
 
 one_more : (b : Bool) (n m : ℕ) → suc n ≤ m → cond b (suc n) 0 ≤ m

@@ -1,2 +1,2 @@
 -- Entries of a list by their numbers, which begin at 1.
-pub use Rattle.programs.specs.Numbered.{numbered, IsNumber}
+pub use Rattle.algebra.specs.Numbered.{numbered, IsNumber}

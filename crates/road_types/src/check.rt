@@ -1,9 +1,9 @@
 // The first rule that a road's record breaks.
 mod counts;
 mod order;
-mod ranges;
 mod tables;
 
+use crate::ranges::is_in_range;
 use crate::{Fault, Road};
 
 impl Road {
@@ -28,7 +28,7 @@ impl Road {
     fn record_fault(&self) -> Option<Fault>
         ensures { result ≡ record_fault self.now }
     {
-        if !ranges::is_in_range(self) {
+        if !is_in_range(self) {
             return Some(Fault::F6);
         }
         if !order::stations_rise(self.sections.as_slice()) {

@@ -1,35 +1,24 @@
--- The form of a list of words, by its length.
-use Rattle.std.specs.Prelude.{ℕ, ◌≢◌, true, false, if◌then◌else◌, Option, Some, None, List, [], ◌∷◌, length, map}
+-- The command of a list of words, by its length.
+use Rattle.std.specs.Prelude.{ℕ, ◌≢◌, Option, None, List, [], ◌∷◌, length, map}
 use Rattle.std.proofs.Common.{◌≡◌, get_or, refl, arith}
-use Rattle.roadopt_program.specs.Forms.{JudgeFiles, is_judge, judge_form}
+use Rattle.roadopt_program.specs.declared.forms.Verb.{Verb}
+use Rattle.roadopt_program.specs.Forms.{verb_of, over_files, command_of}
 
--- the form of three words
-pub form_of_three : List ℕ → List ℕ → List ℕ → Option JudgeFiles
-form_of_three command road plan = if is_judge command road plan then Some (record { road = road; plan = plan }) else None
+pub command_of-other : {A : Type 0} (f : A → List ℕ) (words : List A) → length words ≢ 3 → None ≡ command_of (map f words)
+unfolding command_of
+command_of-other f [] h = refl
+command_of-other f (a ∷ []) h = refl
+command_of-other f (a ∷ b ∷ []) h = refl
+command_of-other f (a ∷ b ∷ c ∷ []) h = absurd (h refl)
+command_of-other f (a ∷ b ∷ c ∷ d ∷ rest) h = refl
 
-pub judge_form-other : {A : Type 0} (f : A → List ℕ) (words : List A) → length words ≢ 3 → None ≡ judge_form (map f words)
-unfolding judge_form
-judge_form-other f [] h = refl
-judge_form-other f (a ∷ []) h = refl
-judge_form-other f (a ∷ b ∷ []) h = refl
-judge_form-other f (a ∷ b ∷ c ∷ []) h = absurd (h refl)
-judge_form-other f (a ∷ b ∷ c ∷ d ∷ rest) h = refl
-
-pub judge_form-three : {A : Type 0} (f : A → List ℕ) (words : List A) (x y z : A) (command road plan : List ℕ) → length words ≡ 3
+pub command_of-three : {A : Type 0} (f : A → List ℕ) (words : List A) (x y z : A) (verb : Option Verb) (word road other : List ℕ) → length words ≡ 3
     → x ≡ get_or words 0 x → y ≡ get_or words 1 y → z ≡ get_or words 2 z
-    → command ≡ f x → road ≡ f y → plan ≡ f z
-    → form_of_three command road plan ≡ judge_form (map f words)
-unfolding judge_form form_of_three
-judge_form-three f [] x y z u v w n p q r k l m = absurd (omega arith)
-judge_form-three f (a ∷ []) x y z u v w n p q r k l m = absurd (omega arith)
-judge_form-three f (a ∷ b ∷ []) x y z u v w n p q r k l m = absurd (omega arith)
-judge_form-three f (a ∷ b ∷ c ∷ []) x y z u v w n p q r k l m = rw (k, l, m, p, q, r) refl
-judge_form-three f (a ∷ b ∷ c ∷ d ∷ rest) x y z u v w n p q r k l m = absurd (omega arith)
-
-pub form_of_three-yes : (a b c : List ℕ) → is_judge a b c ≡ true → Some (record { road = b; plan = c }) ≡ form_of_three a b c
-unfolding form_of_three
-form_of_three-yes a b c h = rw h refl
-
-pub form_of_three-no : (a b c : List ℕ) → is_judge a b c ≡ false → None ≡ form_of_three a b c
-unfolding form_of_three
-form_of_three-no a b c h = rw h refl
+    → word ≡ f x → road ≡ f y → other ≡ f z → verb ≡ verb_of word
+    → over_files verb road other ≡ command_of (map f words)
+unfolding command_of
+command_of-three f [] x y z v u w o n p q r k l m e = absurd (omega arith)
+command_of-three f (a ∷ []) x y z v u w o n p q r k l m e = absurd (omega arith)
+command_of-three f (a ∷ b ∷ []) x y z v u w o n p q r k l m e = absurd (omega arith)
+command_of-three f (a ∷ b ∷ c ∷ []) x y z v u w o n p q r k l m e = rw (e, k, l, m, p, q, r) refl
+command_of-three f (a ∷ b ∷ c ∷ d ∷ rest) x y z v u w o n p q r k l m e = absurd (omega arith)

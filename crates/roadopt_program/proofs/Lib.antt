@@ -1,3 +1,5 @@
-pub mod CostLemmas
+mod CommandLemmas
 mod FormsLemmas
-pub mod JudgingLaws
+mod StatusLemmas
+pub mod DueLaws
+pub mod RunLaws

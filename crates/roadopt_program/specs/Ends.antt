@@ -1,50 +1,52 @@
--- The end of a run of `judge`, by its status: what the files say, and what was put out.
-use Rattle.std.specs.Prelude.{◌≡◌, ℕ, Option, List, []}
-use Rattle.outside.specs.Files.{Files}
+-- What is due at the end of a run, and what was put out of it.
+--     End      a status, the bytes that are due for the output, and the file that is written, if any
+--     said status line      an end that writes no file; missing_end is one, of a file that isn't there
+--     files_with told file      the files once the due one is written
+--     Output, Says      what the sink was given
+--     after_fault status      how a run ends where its output couldn't be written
+use Rattle.std.specs.Prelude.{◌≡◌, ℕ, ◌⊎◌, Option, Some, None, List, []}
 use Rattle.outside.specs.Faults.{HasRisen}
+use Rattle.outside.specs.Files.{Files, with_file}
 use Rattle.outside.specs.Written.{GrewBy, GrewByPrefix}
 use Rattle.roadopt_program.specs.declared.status.Status.{Status}
-use Rattle.roadopt_program.specs.declared.status.Status.TheVariants.{Done, ReadFault, WriteFault, RoadRefused, NoMemory, PlanBroken, PlanRefused, Missing}
-use Rattle.roadopt_program.specs.Answers.{Output, Says}
-use Rattle.roadopt_program.specs.Judging.{Judges}
+use Rattle.roadopt_program.specs.declared.status.Status.TheVariants.{Done, Gap, WriteFault, Missing}
 
--- the answer is what is due, and it stands whole behind what was written
-pub record IsAnswered (files : Option Files) (words : List (List ℕ)) (before now : Output) : Type 0 where
-  pub line : List ℕ
-  pub judged : Judges files words Done line
-  pub whole : GrewBy before.written line now.written
+-- a file that is to be written
+pub record NamedBytes : Type 0 where
+  pub name : List ℕ
+  pub bytes : List ℕ
 
--- the refusal is what is due, and its line stands there; or a put failed, and a prefix of it stands there
-pub record IsRefused (files : Option Files) (words : List (List ℕ)) (status : Status) (before now : Output) : Type 0 where
-  pub line : List ℕ
-  pub judged : Judges files words status line
-  pub says : Says line before now
+-- what is due at the end of a run
+pub record End : Type 0 where
+  pub status : Status
+  pub output : List ℕ
+  pub file : Option NamedBytes
 
--- an answer is due, but a put failed, and a prefix of its line stands there
-pub record IsLost (files : Option Files) (words : List (List ℕ)) (before now : Output) : Type 0 where
-  pub line : List ℕ
-  pub judged : Judges files words Done line
-  pub risen : HasRisen before.faults now.faults
-  pub front : GrewByPrefix before.written line now.written
+-- an end that prints this and writes no file
+abbrev pub said : Status → List ℕ → End
+said status line = record { status = status; output = line; file = None }
 
--- a file that is due isn't there, and nothing was written
-pub record IsMissing (files : Option Files) (words : List (List ℕ)) (before now : Output) : Type 0 where
-  pub judged : Judges files words Missing []
-  pub same : now.written ≡ before.written
+-- a file that is to be read isn't there; nothing is printed
+abbrev pub missing_end : End
+missing_end = said Missing []
 
--- a file couldn't be read, and nothing was written
-pub record IsUnreadable (reads_before reads_now : ℕ) (before now : Output) : Type 0 where
-  pub risen : HasRisen reads_before reads_now
-  pub same : now.written ≡ before.written
+-- the files once the one that is due is written
+abbrev pub files_with : Option Files → Option NamedBytes → Option Files
+files_with told None = told
+files_with told (Some file) = with_file told file.name file.bytes
 
--- what every end of a run of `judge` has behind it; the numbers are those of failed reads before and after it
-abbrev pub EndsAs : Option Files → List (List ℕ) → ℕ → ℕ → Output → Output → Status → Type 0
-EndsAs files words reads_before reads_now before now Done = IsAnswered files words before now
-EndsAs files words reads_before reads_now before now ReadFault = IsUnreadable reads_before reads_now before now
-EndsAs files words reads_before reads_now before now WriteFault = IsLost files words before now
-EndsAs files words reads_before reads_now before now RoadRefused = IsRefused files words RoadRefused before now
-EndsAs files words reads_before reads_now before now PlanRefused = IsRefused files words PlanRefused before now
-EndsAs files words reads_before reads_now before now PlanBroken = IsRefused files words PlanBroken before now
-EndsAs files words reads_before reads_now before now Missing = IsMissing files words before now
-EndsAs files words reads_before reads_now before now NoMemory = now.written ≡ before.written
-EndsAs files words reads_before reads_now before now _ = ⊥
+-- what a sink was given and how many of its puts have failed
+pub record Output : Type 0 where
+  pub written : Option (List ℕ)
+  pub faults : ℕ
+
+-- the line stands whole behind what was written; or a put failed, and a prefix of it stands there
+abbrev pub Says : List ℕ → Output → Output → Type 0
+Says line before now =
+    GrewBy before.written line now.written ⊎ (HasRisen before.faults now.faults × GrewByPrefix before.written line now.written)
+
+-- how a run ends where its output couldn't be written: an answer is lost, a refusal stays
+abbrev pub after_fault : Status → Status
+after_fault Done = WriteFault
+after_fault Gap = WriteFault
+after_fault status = status

@@ -1,27 +1,37 @@
--- The words that the program takes.
-use Rattle.std.specs.Prelude.{ℕ, Bool, true, false, not, ◌&&◌, if◌then◌else◌, Option, Some, None, List, [], ◌∷◌, codes}
+-- The words that the program takes, and the command that they stand for.
+--     Command      what is to be done, and the names of the files
+--     command_of words      the command, where the words are one of the forms
+use Rattle.std.specs.Prelude.{ℕ, Bool, true, false, ◌||◌, if◌then◌else◌, Option, Some, None, List, [], ◌∷◌, codes}
 use Rattle.std.specs.Str.{bytes_eq}
+use Rattle.roadopt_program.specs.declared.forms.Verb.{Verb}
+use Rattle.roadopt_program.specs.declared.forms.Verb.TheVariants.{Judge}
 
--- the names of the two files that a judge reads
-pub record JudgeFiles : Type 0 where
+-- what is to be done, the name of the road's file, and that of the further one
+pub record Command : Type 0 where
+  pub verb : Verb
   pub road : List ℕ
-  pub plan : List ℕ
+  pub other : List ℕ
 
 abbrev pub is_empty : List ℕ → Bool
 is_empty [] = true
 is_empty (b ∷ bytes) = false
 
--- the command is `judge`, and neither name is empty
-abbrev pub is_judge : List ℕ → List ℕ → List ℕ → Bool
-is_judge command road plan = bytes_eq command (codes "judge") && not (is_empty road) && not (is_empty plan)
+-- the first word
+abbrev pub verb_of : List ℕ → Option Verb
+verb_of word = if bytes_eq word (codes "judge") then Some Judge else None
+
+-- the command over two files, neither of whose names is empty
+abbrev pub over_files : Option Verb → List ℕ → List ℕ → Option Command
+over_files None road other = None
+over_files (Some verb) road other =
+    if is_empty road || is_empty other
+    then None
+    else Some (record { verb = verb; road = road; other = other })
 
 -- `judge ROAD PLAN`; no other words are a form
-unfoldable pub judge_form : List (List ℕ) → Option JudgeFiles
-judge_form [] = None
-judge_form (command ∷ []) = None
-judge_form (command ∷ road ∷ []) = None
-judge_form (command ∷ road ∷ plan ∷ []) =
-    if is_judge command road plan
-    then Some (record { road = road; plan = plan })
-    else None
-judge_form (command ∷ road ∷ plan ∷ more ∷ others) = None
+unfoldable pub command_of : List (List ℕ) → Option Command
+command_of [] = None
+command_of (word ∷ []) = None
+command_of (word ∷ road ∷ []) = None
+command_of (word ∷ road ∷ other ∷ []) = over_files (verb_of word) road other
+command_of (word ∷ road ∷ other ∷ more ∷ others) = None

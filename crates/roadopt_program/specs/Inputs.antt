@@ -1,11 +1,36 @@
--- The bytes of a file that a run reads.
-use Rattle.std.specs.Prelude.{ℕ, ◌+◌, ◌^◌, Option, List}
-use Rattle.outside.specs.Files.{Files, FirstBytes}
+-- The bytes of the files that a run reads.
+--     road_limit      how many bytes of a road or a plan are read at the most
+--     IsGiven told name most given      what a read of the named file gives: its bytes up to the limit, or none where there is no such file
+--     Given, AreGiven told command given      the same for all the files of a command
+use Rattle.std.specs.Prelude.{◌≡◌, ℕ, ◌+◌, Option, None, List, IfSome, take}
+use Rattle.std.specs.Option.{option_map}
+use Rattle.std.specs.FinMap.{get}
+use Rattle.outside.specs.Files.{Files}
+use Rattle.road_types.specs.Limits.{longest_file}
+use Rattle.roadopt_program.specs.declared.forms.Verb.{Verb}
+use Rattle.roadopt_program.specs.declared.forms.Verb.TheVariants.{Judge}
+use Rattle.roadopt_program.specs.Forms.{Command}
 
--- how many bytes of a road or a plan are read at the most: one more than a road file may have
-unfoldable pub read_limit : ℕ
-read_limit = 2 ^ 22 + 1
+-- one more byte than a road file may have
+unfoldable pub road_limit : ℕ
+road_limit = longest_file + 1
 
--- these are the named file's bytes, as far as they are read; where the store doesn't tell its files, they are any bytes
-abbrev pub IsFile : Option Files → List ℕ → List ℕ → Type 0
-IsFile files name bytes = FirstBytes files name read_limit bytes
+-- how many bytes of a command's further file are read at the most
+abbrev pub other_limit : Verb → ℕ
+other_limit Judge = road_limit
+
+-- where files are told: the first `most` bytes of the named one, or none where there is no such file
+abbrev pub IsGiven : Option Files → List ℕ → ℕ → Option (List ℕ) → Type 0
+IsGiven told name most given = IfSome told (λ files. given ≡ option_map (take most) (get files name))
+
+-- what the files of a command hold, none where there is no such file
+pub record Given : Type 0 where
+  pub road : Option (List ℕ)
+  pub table : Option (List ℕ)
+  pub other : Option (List ℕ)
+
+-- these are the files' bytes; no section table is read yet
+pub record AreGiven (told : Option Files) (command : Command) (given : Given) : Type 0 where
+  pub road : IsGiven told command.road road_limit given.road
+  pub table : given.table ≡ None
+  pub other : IsGiven told command.other (other_limit command.verb) given.other

@@ -1,7 +1,9 @@
 pub mod Forms
 pub mod Printed
 pub mod Statuses
-pub mod Answers
+pub mod Ends
 pub mod Inputs
 pub mod Judging
-pub mod Ends
+pub mod Due
+pub mod Runs
+pub mod inside

@@ -1,4 +1,6 @@
 -- The lines that the program prints, each with its last byte 10.
+--     fault_name, rule_name      the names of faults and rules
+--     usage_line, road_refused_line, plan_refused_line, broken_line, admissible_line      the lines
 use Rattle.std.specs.Prelude.{ℕ, List, ◌++◌, codes}
 use Rattle.std.specs.Fmt.{decimal}
 use Rattle.road_types.specs.declared.fault.Fault.{Fault}

@@ -2,7 +2,21 @@
 ghost use Rattle.std.specs.Prelude.{◌≡◌, map, length};
 ghost use Rattle.std.specs.Option.{option_map};
 ghost use Rattle.std.specs.String.{string_bytes};
-ghost use Rattle.roadopt_program.specs.Forms.{is_judge, is_empty, judge_form};
+ghost use Rattle.roadopt_program.specs.Forms.{is_empty, verb_of, over_files, command_of};
+
+/// What is to be done.
+#[derive(Clone, Copy)]
+pub(crate) enum Verb {
+    Judge,
+}
+
+/// What is to be done, the name of the road's file, and that of the further one.
+#[derive(Clone, Copy)]
+pub(crate) struct Command<'a> {
+    pub(crate) verb: Verb,
+    pub(crate) road: &'a str,
+    pub(crate) other: &'a str,
+}
 
 fn is_empty(text: &str) -> bool
     ensures { result ≡ is_empty text.now }
@@ -10,26 +24,39 @@ fn is_empty(text: &str) -> bool
     text.is_empty()
 }
 
-fn is_judge(command: &str, road: &str, plan: &str) -> bool
-    ensures { result ≡ is_judge command.now road.now plan.now }
+fn verb_of(word: &str) -> Option<Verb>
+    ensures { result ≡ verb_of word.now }
 {
-    command == "judge" && !is_empty(road) && !is_empty(plan)
+    if word == "judge" {
+        Some(Verb::Judge)
+    } else {
+        None
+    }
 }
 
-/// The names of the road's and the plan's file, where the words are `judge ROAD PLAN`.
-pub(crate) fn judge_names(words: &[String]) -> Option<(&str, &str)>
-    ensures { option_map (λ names. record { road = names.0.now; plan = names.1.now }) result
-        ≡ judge_form (map string_bytes words.now) }
+/// The command over two files, neither of whose names is empty.
+fn over_files<'a>(verb: Option<Verb>, road: &'a str, other: &'a str) -> Option<Command<'a>>
+    ensures { option_map (λ c. record { verb = c.verb; road = c.road.now; other = c.other.now }) result
+        ≡ over_files verb road.now other.now }
+{
+    let verb = verb?;
+    if is_empty(road) || is_empty(other) {
+        None
+    } else {
+        Some(Command { verb, road, other })
+    }
+}
+
+/// The command, where the words are `judge ROAD PLAN`.
+pub(crate) fn command_of(words: &[String]) -> Option<Command<'_>>
+    ensures { option_map (λ c. record { verb = c.verb; road = c.road.now; other = c.other.now }) result
+        ≡ command_of (map string_bytes words.now) }
 {
     if words.len() != 3 {
         return None;
     }
-    let command = words[0].as_str();
+    let word = words[0].as_str();
     let road = words[1].as_str();
-    let plan = words[2].as_str();
-    if is_judge(command, road, plan) {
-        Some((road, plan))
-    } else {
-        None
-    }
+    let other = words[2].as_str();
+    over_files(verb_of(word), road, other)
 }

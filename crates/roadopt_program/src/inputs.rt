@@ -1,40 +1,71 @@
 // The bytes of the files that a run reads.
-ghost use Rattle.std.specs.Prelude.{◌≡◌, ◌+◌, ◌^◌, ◌≤◌, IfOk, IfErr, IsErrOf, IsTrue};
+ghost use Rattle.std.specs.Prelude.{◌≡◌, ◌+◌, ◌^◌, ◌≤◌, IfOk, IsErrOf, None};
+ghost use Rattle.std.specs.Option.{option_map};
 ghost use Rattle.outside.specs.Faults.{HasRisen};
-ghost use Rattle.outside.specs.Files.{LacksFile};
-ghost use Rattle.roadopt_program.specs.Answers.{is_unread};
-ghost use Rattle.roadopt_program.specs.Inputs.{read_limit, IsFile};
+ghost use Rattle.roadopt_program.specs.Inputs.{road_limit, other_limit, IsGiven};
+ghost use Rattle.roadopt_program.specs.declared.inputs.Lost.TheVariants.{NoMemory};
 
-use crate::Status;
+use crate::forms::Verb;
 use outside::{Store, StoreErr};
-use std::alloc::Global;
+use road_types::LONGEST_FILE;
+use std::alloc::{AllocError, Global};
 
-/// How many bytes of a road or a plan are read at the most.
-#[tactic(auto, unfolding(crate::specs::Inputs::read_limit))]
-fn read_limit() -> usize
-    ensures value { result ≡ read_limit }
-    ensures within { result ≤ 2 ^ 26 + 1 }
-{
-    (1 << 22) + 1
+/// What a run needed and didn't get.
+#[derive(Clone, Copy)]
+pub(crate) enum Lost {
+    /// A read failed.
+    Failed,
+    /// Memory ran out.
+    NoMemory,
 }
 
-/// The named file's bytes, as far as they are read. The errors are `Missing`, `ReadFault` and `NoMemory`.
+impl From<AllocError> for Lost {
+    ghost from_gives = { λ _ e. e ≡ NoMemory };
+
+    fn from(_: AllocError) -> Self {
+        Lost::NoMemory
+    }
+}
+
+/// How many bytes of a road's file are read at the most.
+#[tactic(auto, unfolding(crate::specs::Inputs::road_limit))]
+pub(crate) fn road_limit() -> usize
+    ensures value { result ≡ road_limit }
+    ensures within { result ≤ 2 ^ 26 + 1 }
+{
+    LONGEST_FILE + 1
+}
+
+impl Verb {
+    /// How many bytes of the command's further file are read at the most.
+    pub(crate) fn other_limit(self) -> usize
+        ensures value { result ≡ other_limit self }
+        ensures within { result ≤ 2 ^ 26 + 1 }
+    {
+        match self {
+            Verb::Judge => road_limit(),
+        }
+    }
+}
+
+/// The first `most` bytes of the named file; none where there is no such file.
 pub(crate) fn read_file<S: Store>(
     alloc: Global,
     name: &str,
+    most: usize,
     store: &mut S,
-) -> Result<Vec<u8>, Status>
-    ensures ok { IfOk result (λ bytes. IsFile (S.files store.old) name.now bytes.items) }
-    ensures missing { IsErrOf result Status.Missing → LacksFile (S.files store.old) name.now }
-    ensures fault { IsErrOf result Status.ReadFault → HasRisen (S.read_faults store.old) (S.read_faults store.new) }
-    ensures unread { IfErr result (λ status. IsTrue (is_unread status)) }
+) -> Result<Option<Vec<u8>>, Lost>
+    requires { most ≤ 2 ^ 26 + 1 }
+    ensures given { IfOk result (λ found. IsGiven (S.files store.old) name.now most (option_map (λ bytes. bytes.items) found)) }
+    ensures missing { IfOk result (λ found. found ≡ None → S.read_faults store.new ≡ S.read_faults store.old) }
+    ensures failed { IsErrOf result Lost.Failed → HasRisen (S.read_faults store.old) (S.read_faults store.new) }
     ensures files { S.files store.new ≡ S.files store.old }
     ensures never_falls { S.read_faults store.old ≤ S.read_faults store.new }
 {
-    match store.read(alloc, name, read_limit()) {
-        Ok(bytes) => Ok(bytes),
-        Err(StoreErr::Missing) => Err(Status::Missing),
-        Err(StoreErr::Failed) => Err(Status::ReadFault),
-        Err(StoreErr::NoMemory) => Err(Status::NoMemory),
+    match store.read(alloc, name, most) {
+        Ok(bytes) => Ok(Some(bytes)),
+        Err(StoreErr::Missing) => Ok(None),
+        Err(StoreErr::Failed) => Err(Lost::Failed),
+        Err(StoreErr::NoMemory) => Err(Lost::NoMemory),
     }
 }

@@ -1,13 +1,15 @@
 //! The program's commands over any store and sink: `run` takes the words of the command line and answers how it ended.
-//! The definitions stand in specs/: Forms (words), Printed (lines), Judging (what `judge` answers), Statuses.
+//! The definitions stand in specs/: Forms (words), Due (what is due, in the order of the call), Runs (what stands behind each end).
 #![tactic(auto)]
 
-mod answers;
+mod commands;
+mod ending;
 mod forms;
 mod inputs;
 mod judging;
 mod lines;
 mod program;
+mod roads;
 mod status;
 
 pub use program::{Answer, run};

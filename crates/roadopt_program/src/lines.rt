@@ -1,7 +1,6 @@
 // The lines that are printed.
-ghost use Rattle.std.specs.Prelude.{◌≡◌, IfOk};
+ghost use Rattle.std.specs.Prelude.{◌≡◌, ◌≢◌, ◌<◌, ◌^◌, pos, unsigned_abs, IfOk};
 ghost use Rattle.std.specs.String.{string_bytes};
-ghost use Rattle.numbers.specs.Fractions.{HasFraction};
 ghost use Rattle.roadopt_program.specs.Judging.{PrintsFraction};
 ghost use Rattle.roadopt_program.specs.Printed.{fault_name, rule_name, road_refused_line, plan_refused_line, broken_line, admissible_line};
 
@@ -95,7 +94,9 @@ pub(crate) fn admissible_line(alloc: Global, cost: &Frac) -> Result<String, Allo
 
 /// The line for an admissible plan of this cost over its denominator.
 pub(crate) fn cost_line(alloc: Global, cost: i128, den: i128) -> Result<String, AllocError>
-    requires { HasFraction cost den }
+    requires defined { den ≢ pos 0 }
+    requires cost_in_range { unsigned_abs cost < 2 ^ 127 }
+    requires den_in_range { unsigned_abs den < 2 ^ 127 }
     ensures { IfOk result (λ line. PrintsFraction cost den (string_bytes line)) }
 {
     let Some(cost) = Frac::new(cost, den) else {

@@ -1,16 +1,19 @@
 // The top call.
-ghost use Rattle.std.specs.Prelude.{◌≡◌, ◌≢◌, ◌↔◌, ℕ, List, Some, None, map};
+ghost use Rattle.std.specs.Prelude.{◌≡◌, ◌≢◌, ◌↔◌, ℕ, List, Some, None, IsTrue, map};
 ghost use Rattle.std.specs.String.{string_bytes};
 ghost use Rattle.outside.specs.Faults.{HasRisen};
-ghost use Rattle.roadopt_program.specs.Answers.{Says};
-ghost use Rattle.roadopt_program.specs.Ends.{EndsAs, IsAnswered, IsRefused, IsLost, IsMissing};
-ghost use Rattle.roadopt_program.specs.Forms.{judge_form};
+ghost use Rattle.roadopt_program.specs.Ends.{Says};
+ghost use Rattle.roadopt_program.specs.Forms.{command_of};
 ghost use Rattle.roadopt_program.specs.Printed.{usage_line};
+ghost use Rattle.roadopt_program.specs.Runs.{IsAnswered, IsRefused, IsMissing, IsLost, EndsAsDue, HasOneEnd};
+ghost use Rattle.roadopt_program.specs.Statuses.{is_answer, is_refusal, is_silent};
+ghost use Rattle.roadopt_program.specs.inside.Outcomes.{Outcome};
 
 use crate::Status;
-use crate::answers::{print, say};
-use crate::forms::judge_names;
-use crate::judging::judge_files;
+use crate::commands::end_of_command;
+use crate::ending::{print, say};
+use crate::forms::{Command, command_of};
+use crate::inputs::Lost;
 use outside::{Sink, Store};
 use std::alloc::Global;
 
@@ -29,71 +32,70 @@ pub struct Answer {
 ///
 /// `Usage` where they aren't `judge ROAD PLAN`. Else the road file is read, then the plan file, and the line for the plan is
 /// printed: the first thing that is wrong on this way is the end. `NoMemory` may come at any step before the line is printed.
+#[tactic(auto, using(crate::proofs::RunLaws::usage_as_due, crate::proofs::DueLaws::one_end))]
 pub fn run<S: Store, O: Sink>(alloc: Global, words: &[String], store: &mut S, out: &mut O) -> Answer
     // The words, before anything is read.
-    ensures usage { (result.status ≡ Status.Usage) ↔ (judge_form (map string_bytes words.now) ≡ None) }
+    ensures usage { (result.status ≡ Status.Usage) ↔ (command_of (map string_bytes words.now) ≡ None) }
     ensures usage_line { result.status ≡ Status.Usage → Says usage_line
         (record { written = O.written out.old; faults = O.faults out.old })
         (record { written = O.written out.new; faults = O.faults out.new }) }
     ensures usage_reads_nothing { result.status ≡ Status.Usage → store.new ≡ store.old }
 
-    // An answer, or the first refusal in the order of the call, is what the files say, and its line is printed.
-    ensures done { result.status ≡ Status.Done → IsAnswered (S.files store.old) (map string_bytes words.now)
+    // An answer, or the first refusal in the order of the call, is what is due for the files, and stands in the output.
+    ensures answered { IsTrue (is_answer result.status) → IsAnswered (S.files store.old) (map string_bytes words.now) result.status (S.files store.new)
         (record { written = O.written out.old; faults = O.faults out.old })
         (record { written = O.written out.new; faults = O.faults out.new }) }
-    ensures road_refused { result.status ≡ Status.RoadRefused → IsRefused (S.files store.old) (map string_bytes words.now) Status.RoadRefused
-        (record { written = O.written out.old; faults = O.faults out.old })
-        (record { written = O.written out.new; faults = O.faults out.new }) }
-    ensures plan_refused { result.status ≡ Status.PlanRefused → IsRefused (S.files store.old) (map string_bytes words.now) Status.PlanRefused
-        (record { written = O.written out.old; faults = O.faults out.old })
-        (record { written = O.written out.new; faults = O.faults out.new }) }
-    ensures plan_broken { result.status ≡ Status.PlanBroken → IsRefused (S.files store.old) (map string_bytes words.now) Status.PlanBroken
+    ensures refused { IsTrue (is_refusal result.status) → IsRefused (S.files store.old) (map string_bytes words.now) result.status
         (record { written = O.written out.old; faults = O.faults out.old })
         (record { written = O.written out.new; faults = O.faults out.new }) }
     ensures missing { result.status ≡ Status.Missing → IsMissing (S.files store.old) (map string_bytes words.now)
-        (record { written = O.written out.old; faults = O.faults out.old })
-        (record { written = O.written out.new; faults = O.faults out.new }) }
+        (S.read_faults store.old) (S.read_faults store.new) }
 
     // What fails has its cause in this call; want of memory alone is free.
     ensures read_fault { result.status ≡ Status.ReadFault → HasRisen (S.read_faults store.old) (S.read_faults store.new) }
-    ensures read_fault_prints_nothing { result.status ≡ Status.ReadFault → O.written out.new ≡ O.written out.old }
-    ensures write_fault { result.status ≡ Status.WriteFault → IsLost (S.files store.old) (map string_bytes words.now)
+    ensures write_fault { result.status ≡ Status.WriteFault → IsLost (S.files store.old) (map string_bytes words.now) (S.files store.new)
         (record { written = O.written out.old; faults = O.faults out.old })
         (record { written = O.written out.new; faults = O.faults out.new }) }
-    ensures no_memory { result.status ≡ Status.NoMemory → O.written out.new ≡ O.written out.old }
-    ensures not_yet_gap { result.status ≢ Status.Gap }
-    ensures not_yet_certificates { result.status ≢ Status.CertRefused }
-
-    // No file is changed.
+    // The sink is as it was where a file wasn't read or isn't there, or memory was wanting.
+    ensures silent { IsTrue (is_silent result.status) → out.new ≡ out.old }
+    // No command writes a file yet.
     ensures files { S.files store.new ≡ S.files store.old }
+
+    // The other direction: where files are told, one end is due at the most, and the run reaches it unless something failed.
+    ensures as_due { EndsAsDue (S.files store.old) (map string_bytes words.now) (S.read_faults store.old) (S.read_faults store.new)
+        (record { written = O.written out.old; faults = O.faults out.old })
+        (record { written = O.written out.new; faults = O.faults out.new }) result.status }
+    ensures one_end { HasOneEnd (S.files store.old) (map string_bytes words.now) }
 {
-    let Some((road, plan)) = judge_names(words) else {
+    let Some(command) = command_of(words) else {
         say(out, USAGE);
         return Answer {
             status: Status::Usage,
         };
     };
     Answer {
-        status: judge_run(alloc, road, plan, store, out),
+        status: carry_out(alloc, command, store, out),
     }
 }
 
-/// Judges the plan and prints the line, and answers the end of the run.
-fn judge_run<S: Store, O: Sink>(
+/// Carries a command out, and answers the end of the run.
+fn carry_out<S: Store, O: Sink>(
     alloc: Global,
-    road: &str,
-    plan: &str,
+    command: Command<'_>,
     store: &mut S,
     out: &mut O,
 ) -> Status
-    ensures ends { (words : List (List ℕ)) → judge_form words ≡ Some (record { road = road.now; plan = plan.now })
-        → EndsAs (S.files store.old) words (S.read_faults store.old) (S.read_faults store.new)
+    ensures outcome { Outcome (S.files store.old)
+        (record { verb = command.entry.verb; road = command.entry.road.now; other = command.entry.other.now })
+        (S.read_faults store.old) (S.read_faults store.new)
         (record { written = O.written out.old; faults = O.faults out.old })
         (record { written = O.written out.new; faults = O.faults out.new }) result }
+    ensures silent { IsTrue (is_silent result) → out.new ≡ out.old }
     ensures files { S.files store.new ≡ S.files store.old }
 {
-    match judge_files(alloc, road, plan, store) {
-        Ok(reply) => print(out, &reply),
-        Err(status) => status,
+    match end_of_command(alloc, command, store) {
+        Ok(ending) => print(out, &ending),
+        Err(Lost::Failed) => Status::ReadFault,
+        Err(Lost::NoMemory) => Status::NoMemory,
     }
 }

@@ -2,12 +2,13 @@
 use Rattle.std.proofs.Common.{ℕ, ◌⊎◌, inl, inr, ◌≡◌, ◌∙◌, ◌<◌, ◌≤◌, ◌≢◌, ◌+◌, List, [], ◌∷◌, ◌++◌, length, get_or, set, take, map, min, sym, ap, subst, arith}
 use Rattle.std.proofs.lemmas.List.{set-set, set-get_or, map-set, take_more_set, get_or-map, get_or-take, get_or-set_same, get_or-set_other, length-set, length-map, length-take}
 use Rattle.std.proofs.lemmas.List.Edits.{swap_is, length-swap}
-use Rattle.std.proofs.lemmas.List.Elements.{All-set}
+use Rattle.std.proofs.lemmas.List.Elements.{All-set, All-push, All-weaker}
 use Rattle.std.proofs.lemmas.Bool.{cases_eq}
 use Rattle.std.proofs.Math.Seq.{take-set-lt}
-use Rattle.std.specs.List.{swap}
+use Rattle.std.specs.List.{All, swap}
 use Rattle.term_store.specs.HeldRow.{HeldRow}
-use Rattle.term_store.specs.HeldRows.{HeldRows, row_at, with_row, seen, AllHaveRoom, IsInOrder}
+use Rattle.term_store.specs.HeldRows.{HeldRows, row_at, with_row, AllFit, KeepsWidth}
+use Rattle.term_store.specs.inside.Lending.{seen, AllHaveRoom, IsInOrder}
 
 module _ {X : Type 0} where
   -- what was taken out of a place and is put there again leaves the list as it was
@@ -204,3 +205,31 @@ module _ {X : Type 0} (s : HeldRows X) (n width : ℕ) (xs : List (HeldRow X)) (
       (subst (λ (m : ℕ). i < m) (sym (length-set xs p a)) (named i i-in).1)
       (subst (λ (m : ℕ). k < m) (sym (length-set xs p a)) (named k k-in).1)
       ∙ ap (λ (t : HeldRows X). swap t.rows i k) is)))
+
+module _ {X : Type 0} (s : HeldRows X) where
+  -- a view with room for the width
+  pub keeps_width : (i room : ℕ) → s.width ≤ room → KeepsWidth s i room
+  keeps_width i room wide = record {
+    width = λ w e. omega (arith, wide, e);
+    fit = λ all w e short.
+        All-set (λ (row : List X). length row ≤ min s.width w.room) s.rows i w.terms (omega (arith, wide, e, short))
+        (All-weaker (λ (row : List X). length row ≤ s.width) (λ (row : List X). length row ≤ min s.width w.room) (λ row fits. omega (arith, wide, e, fits)) s.rows all);
+  }
+
+  module _ (t : HeldRows X) (same : t.width ≡ s.width) (all : AllFit s) where
+    fit_from : (rows : List (List X)) → t.rows ≡ rows → All (λ (row : List X). length row ≤ s.width) rows → AllFit t
+    fit_from rows e fits =
+        subst (λ (l : List (List X)). All (λ (row : List X). length row ≤ t.width) l) (sym e)
+        (All-weaker (λ (row : List X). length row ≤ s.width) (λ (row : List X). length row ≤ t.width) (λ row f. omega (arith, same, f)) rows fits)
+
+    -- a row that fits was pushed
+    pub fit_after_push : (terms : List X) → t.rows ≡ s.rows ++ terms ∷ [] → length terms ≤ s.width → AllFit t
+    fit_after_push terms e fits =
+        fit_from (s.rows ++ terms ∷ []) e (All-push (λ (row : List X). length row ≤ s.width) s.rows terms all fits)
+
+    -- two rows were exchanged
+    pub fit_after_swap : (i k : ℕ) → t.rows ≡ swap s.rows i k → i < length s.rows → k < length s.rows → AllFit t
+    fit_after_swap i k e i-in k-in =
+        fit_from (set (set s.rows i (get_or s.rows k [])) k (get_or s.rows i [])) (e ∙ sym (swap_is s.rows i k [] i-in k-in))
+        (All-set (λ (row : List X). length row ≤ s.width) (set s.rows i (get_or s.rows k [])) k (get_or s.rows i []) (all i [] i-in)
+        (All-set (λ (row : List X). length row ≤ s.width) s.rows i (get_or s.rows k []) (all k [] k-in) all))

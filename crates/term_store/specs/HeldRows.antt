@@ -1,5 +1,5 @@
 -- What contracts see of a store of rows, and what a write through the view of one row leaves.
-use Rattle.std.specs.Prelude.{ℕ, ◌<◌, ◌≤◌, min, List, [], map, length, take, slice_set, slice_index_or, refl}
+use Rattle.std.specs.Prelude.{◌≡◌, ℕ, ◌≤◌, min, List, [], length, slice_set, slice_index_or, refl}
 use Rattle.std.specs.List.{All}
 use Rattle.std.specs.Coded.{Coded, code_by, coded×, coded_ℕ, coded_list}
 use Rattle.term_store.specs.HeldRow.{HeldRow}
@@ -30,23 +30,11 @@ module _ {X : Type 0} where
     width = min s.width w.room;
   }
 
-  -- the rows that are in use: the first ones, with the row that is kept apart put at its place
-  abbrev pub rows_in_use : ℕ → List (HeldRow X) → ℕ → HeldRow X → List (List X)
-  rows_in_use count rows place kept = take count (map (λ r. r.terms) (slice_set rows place kept))
+  -- no row is longer than the width
+  abbrev pub AllFit : HeldRows X → Type 0
+  AllFit s = All (λ row. length row ≤ s.width) s.rows
 
-  -- what is seen of a store whose list of rows is `rows`, while the row of `place` is kept apart
-  abbrev pub seen : ℕ → ℕ → List (HeldRow X) → ℕ → HeldRow X → HeldRows X
-  seen count width rows place kept = record {
-    rows = rows_in_use count rows place kept;
-    room = length rows;
-    width = min width kept.room;
-  }
-
-  -- every row has room for that many terms
-  abbrev pub AllHaveRoom : ℕ → List (HeldRow X) → Type 0
-  AllHaveRoom width rows = All (λ r. width ≤ r.room) rows
-
-  -- the rows in use are among the list's, the place is one of the list, and its rows are wide enough
-  abbrev pub IsInOrder : ℕ → ℕ → List (HeldRow X) → ℕ → Type 0
-  IsInOrder count width rows place =
-      (count ≤ length rows) × ((0 < length rows → place < length rows) × AllHaveRoom width rows)
+  -- whatever a view of row i with that room leaves, with its room as it was: the width stays, and if the row left isn't longer than the width, no row is
+  pub record KeepsWidth (s : HeldRows X) (i room : ℕ) : Type 0 where
+    pub width : (w : HeldRow X) → w.room ≡ room → (with_row s i w).width ≡ s.width
+    pub fit : AllFit s → (w : HeldRow X) → w.room ≡ room → length w.terms ≤ s.width → AllFit (with_row s i w)

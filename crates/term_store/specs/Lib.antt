@@ -1,2 +1,3 @@
 pub mod HeldRow
 pub mod HeldRows
+pub mod inside

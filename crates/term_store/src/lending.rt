@@ -1,6 +1,6 @@
 // Which row is kept apart from the others, so that it can be lent beside them.
 ghost use Rattle.std.specs.Prelude.{◌≡◌, ◌<◌, ◌≤◌, ℕ, length, slice_set};
-ghost use Rattle.term_store.specs.HeldRows.{AllHaveRoom};
+ghost use Rattle.term_store.specs.inside.Lending.{AllHaveRoom};
 
 use crate::row::Row;
 use std::mem;

@@ -12,6 +12,3 @@ pub use row::{Row, RowMut};
 pub use rows::Rows;
 pub use side::Side;
 pub use term::Term;
-
-#[cfg(test)]
-mod tests;

@@ -35,7 +35,8 @@ impl<V: Copy> Row<V> {
 
     /// The number of terms.
     pub fn len(&self) -> usize
-        ensures { result ≡ length self.now.terms }
+        ensures value { result ≡ length self.now.terms }
+        ensures within { length self.now.terms ≤ self.now.room }
     {
         self.terms.len()
     }

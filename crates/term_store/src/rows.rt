@@ -2,7 +2,8 @@
 ghost use Rattle.std.specs.Prelude.{◌≡◌, ◌<◌, ◌≤◌, ◌≢◌, ◌++◌, ◌∷◌, [], length, IfOk};
 ghost use Rattle.std.specs.List.{swap};
 ghost use Rattle.std.specs.Borrow.{sem, follows};
-ghost use Rattle.term_store.specs.HeldRows.{row_at, with_row, AllHaveRoom};
+ghost use Rattle.term_store.specs.HeldRows.{row_at, with_row, AllFit, KeepsWidth};
+ghost use Rattle.term_store.specs.inside.Lending.{AllHaveRoom};
 
 use crate::lending::keep_apart;
 use crate::row::{Row, RowMut};
@@ -22,7 +23,8 @@ pub struct Rows<V> {
 }
 
 impl<V> Model for Rows<V> {
-    ghost use Rattle.term_store.specs.HeldRows.{HeldRows, held_rows_code, seen, IsInOrder};
+    ghost use Rattle.term_store.specs.HeldRows.{HeldRows, held_rows_code};
+    ghost use Rattle.term_store.specs.inside.Lending.{seen, IsInOrder};
     ghost use Rattle.term_store.specs.declared.term.Term.{Term};
 
     ghost Value = { HeldRows (Term V) };
@@ -65,6 +67,7 @@ impl<V: Copy> Rows<V> {
         ensures rows { self.new.rows ≡ self.old.rows ++ terms.now ∷ [] }
         ensures room { self.new.room ≡ self.old.room }
         ensures width { self.new.width ≡ self.old.width }
+        ensures fit { AllFit self.old → AllFit self.new }
     {
         self.width = self.width.min(self.kept.room());
         keep_apart(&mut self.rows, &mut self.kept, &mut self.place, self.count);
@@ -84,13 +87,15 @@ impl<V: Copy> Rows<V> {
         }
     }
 
-    /// A view of row `i` for writing: what it leaves behind is the row from then on, and no other row changes.
+    /// A view of row `i` for writing. `writes_back` says: once the view is given up, the store is as it was, but
+    /// for row `i`, which is what the view then holds. `width`: as no call of `Row` changes a row's room, the width stays.
     pub fn row_mut(&mut self, i: usize) -> RowMut<'_, V>
         requires { i < length self.old.rows }
         ensures* writes_back { sem 𝓛 (follows (the_row V.row) (row_type V.row)
             self.entry.ghost_name result.ghost_name (with_row self.old i)) }
         ensures terms { result.now.terms ≡ row_at self.old i }
         ensures room { self.old.width ≤ result.now.room }
+        ensures width { KeepsWidth self.old i result.now.room }
     {
         self.width = self.width.min(self.kept.room());
         keep_apart(&mut self.rows, &mut self.kept, &mut self.place, i);
@@ -98,6 +103,8 @@ impl<V: Copy> Rows<V> {
     }
 
     /// Rows `i` and `j` for reading beside a view of row `k` for writing. The three are asked to differ.
+    /// `writes_back` and `width` say of row `k` what `row_mut` says: the store is as it was, but for row `k`, which
+    /// is what the view then holds, and the width stays.
     pub fn merge_mut(
         &mut self,
         i: usize,
@@ -113,6 +120,7 @@ impl<V: Copy> Rows<V> {
         ensures right { result.1.now ≡ row_at self.old j }
         ensures terms { result.2.now.terms ≡ row_at self.old k }
         ensures room { self.old.width ≤ result.2.now.room }
+        ensures width { KeepsWidth self.old k result.2.now.room }
     {
         self.width = self.width.min(self.kept.room());
         keep_apart(&mut self.rows, &mut self.kept, &mut self.place, k);
@@ -128,6 +136,7 @@ impl<V: Copy> Rows<V> {
         ensures rows { self.new.rows ≡ swap self.old.rows i k }
         ensures room { self.new.room ≡ self.old.room }
         ensures width { self.new.width ≡ self.old.width }
+        ensures fit { AllFit self.old → AllFit self.new }
     {
         self.width = self.width.min(self.kept.room());
         keep_apart(&mut self.rows, &mut self.kept, &mut self.place, i);

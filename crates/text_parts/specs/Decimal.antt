@@ -1,4 +1,5 @@
 -- A whole number has one spelling: `0`, or an optional `-`, a digit 1 to 9 and further digits; thirty digits at most are read.
+-- Here stand numerals, the number that bytes spell, and that a number and its spelling belong together.
 use Rattle.std.specs.Prelude.{ℕ, ◌≡◌, ◌^◌, ◌<◌, zero, suc, ℤ, pos, negsuc, List, [], ◌∷◌, length, Bool, ◌&&◌, not, ◌==◌, nat_le, nat_lt, Option, Some, None, if◌then◌else◌, unsigned_abs, slice_index, MatchOption}
 use Rattle.std.specs.Option.{option_map, option_and_then}
 use Rattle.std.specs.List.{list_all}

@@ -1,4 +1,4 @@
 pub mod Decimal
 pub mod Lines
-pub mod Reading
 pub mod Words
+pub mod inside

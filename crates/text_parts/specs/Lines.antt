@@ -1,5 +1,6 @@
 -- The lines of a text are its parts before each line feed, and a last part without one where it is not empty.
-use Rattle.std.specs.Prelude.{ℕ, ◌≡◌, ◌+◌, ◌≤◌, List, [], ◌∷◌, ◌++◌, length, drop, Bool, true, false, if◌then◌else◌, slice_range}
+-- Here stand a line and its span, the lines of a text and the text of lines, a reader of lines and what it gives next.
+use Rattle.std.specs.Prelude.{ℕ, ◌≡◌, ◌+◌, ◌≤◌, List, [], ◌∷◌, ◌++◌, length, drop, Option, MatchOption, Bool, true, false, if◌then◌else◌, slice_range}
 use Rattle.text_parts.specs.Words.{parts_between}
 
 -- the byte that ends a line
@@ -42,6 +43,12 @@ pub record Reading : Type 0 where
 pub record IsOfSource (lines : Reading) : Type 0 where
   pub place : ℕ
   pub left_is : lines.left ≡ lines_of place (drop place lines.source)
+
+-- the line that was given is the first that was left and counts as one more; where none was left nothing changes
+abbrev pub GivesNext : Reading → Option TextLine → Reading → Type 0
+GivesNext before given after =
+    MatchOption given ((before.left ≡ []) × (after ≡ before))
+    (λ line. (before.left ≡ line ∷ after.left) × (after.number ≡ before.number + 1) × (after.source ≡ before.source))
 
 -- the bytes of a line, with the line feed that ended it
 abbrev pub bytes_of : TextLine → List ℕ

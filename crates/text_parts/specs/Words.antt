@@ -1,4 +1,4 @@
--- Words are the parts of a line between its spaces, and lines the parts of a text before its line feeds.
+-- The words of a line are its parts between spaces; and the parts of any bytes between one byte, which lines are too.
 use Rattle.std.specs.Prelude.{ℕ, List, [], ◌∷◌, Option, ◌==◌}
 use Rattle.std.specs.Borrow.{Bor}
 use Rattle.std.specs.List.{slice_split}
@@ -15,10 +15,6 @@ parts_between separator bytes = slice_split (λ b. b == separator) bytes
 -- the words of a line
 abbrev pub words_of : List ℕ → List (List ℕ)
 words_of line = parts_between space line
-
--- the words of what is left of a line, none where nothing is left, which is less than an empty word
-abbrev pub words_left : Option (Bor (List ℕ)) → List (List ℕ)
-words_left rest = option_map_or (λ bytes. words_of bytes.now) rest []
 
 -- the bytes of what stands behind a separator, with that separator, where there is one
 abbrev pub with_separator : ℕ → Option (Bor (List ℕ)) → List ℕ

@@ -6,8 +6,6 @@ mod cut;
 mod decimal;
 mod line;
 mod lines;
-#[cfg(test)]
-mod tests;
 mod words;
 
 pub use cut::cut_at;

@@ -1,5 +1,5 @@
 ghost use Rattle.std.specs.Prelude.{◌≡◌, ◌<◌, ◌+◌, ◌^◌, List, [], ◌∷◌, MatchOption, IfSome, All};
-ghost use Rattle.text_parts.specs.Lines.{lines_of, IsOfSource, IsSpanOf, end_of};
+ghost use Rattle.text_parts.specs.Lines.{lines_of, GivesNext, IsOfSource, IsSpanOf, end_of};
 
 use crate::cut::cut_at;
 use crate::line::Line;
@@ -25,8 +25,6 @@ impl<'a> Model for Lines<'a> {
 }
 
 impl<'a> Lines<'a> {
-    ghost use Rattle.text_parts.specs.Reading.{GivesNext};
-
     /// The lines of these bytes: the parts before each line feed, and a last part without one where it is not empty.
     pub fn over(bytes: &'a [u8]) -> Lines<'a>
         ensures source { result.source ≡ bytes.now }

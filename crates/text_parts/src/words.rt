@@ -12,7 +12,7 @@ pub struct Words<'a> {
 
 impl<'a> Model for Words<'a> {
     ghost use Rattle.std.specs.Prelude.{ℕ, List};
-    ghost use Rattle.text_parts.specs.Words.{words_left};
+    ghost use Rattle.text_parts.specs.inside.Left.{words_left};
 
     ghost Value = { List (List ℕ) };
 

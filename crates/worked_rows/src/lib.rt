@@ -1,4 +1,4 @@
-//! Whole runs of the program over a store and a sink in memory, on worked examples. Tests alone.
+//! Whole runs of the program over a store and a sink in memory, each of whose calls fails in turn. Tests alone.
 #![tactic(auto)]
 
 #[cfg(test)]

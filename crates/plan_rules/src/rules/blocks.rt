@@ -2,21 +2,21 @@
 ghost use Rattle.std.specs.Prelude.{◌↔◌, IsTrue, ◌≡◌, ◌≤ℤ◌};
 ghost use Rattle.road_types.specs.Numbered.{IsNumber};
 ghost use Rattle.road_types.specs.Road.{block_count};
-ghost use Rattle.road_types.specs.Accepted.{IsAccepted};
+ghost use Rattle.road_types.specs.WellFormed.{IsWellFormed};
 ghost use Rattle.plan_rules.specs.Fits.{Fits};
 ghost use Rattle.plan_rules.specs.Plans.{opening};
 ghost use Rattle.plan_rules.specs.Rules.{IsOpening, RespectsBlock};
 
-use crate::entries::{amount_at, block_at, opening_at};
+use crate::entries::{amount_at, opening_at};
 use crate::logic::both;
-use crate::numbers::{at_most, same};
 use crate::plan::Plan;
 use crate::rules::flows::hauled_out;
+use algebra::{at_most, same};
 use road_types::Road;
 
 /// Whether a block's opening is a stage from 2 on, or the one after the last, which means never.
 pub fn is_opening(road: &Road, plan: &Plan, number: usize) -> bool
-    requires accepted { IsAccepted road.now }
+    requires well_formed { IsWellFormed road.now }
     ensures { IsTrue result ↔ IsOpening road.now (opening plan.now number) }
 {
     let stage = opening_at(plan, number);
@@ -26,12 +26,12 @@ pub fn is_opening(road: &Road, plan: &Plan, number: usize) -> bool
 /// Whether a stage respects a block: before its opening no more leaves its section than is cut there, from then on nothing
 /// is cut or filled there.
 pub fn respects_block(road: &Road, plan: &Plan, stage: usize, number: usize) -> bool
-    requires accepted { IsAccepted road.now }
+    requires well_formed { IsWellFormed road.now }
     requires fits { Fits road.now plan.now }
     requires number { IsNumber number (block_count road.now) }
     ensures { IsTrue result ↔ RespectsBlock road.now plan.now stage number }
 {
-    let section = block_at(road, number).section;
+    let section = road.block(number).section;
     let cut = amount_at(&plan.cut, stage, section);
     if stage < opening_at(plan, number) {
         at_most(hauled_out(plan, stage, section), cut)

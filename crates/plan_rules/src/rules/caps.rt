@@ -3,19 +3,20 @@ ghost use Rattle.std.specs.Prelude.{◌↔◌, IsTrue, ◌≡◌, ◌≤ℤ◌, 
 ghost use Rattle.algebra.specs.Sums.{sum_to};
 ghost use Rattle.road_types.specs.Numbered.{IsNumber};
 ghost use Rattle.road_types.specs.Road.{section_count, hop_count, access_count, pit_count, section, hop, access};
-ghost use Rattle.road_types.specs.Accepted.{IsAccepted};
+ghost use Rattle.road_types.specs.WellFormed.{IsWellFormed};
 ghost use Rattle.plan_rules.specs.Fits.{Fits};
 ghost use Rattle.plan_rules.specs.Plans.{amount};
 ghost use Rattle.plan_rules.specs.Rules.{KeepsCaps, IsPitCapped, IsAmountCapped, IsCapped, amount_count, pit_share, road_total};
 
-use crate::entries::{access_at, amount_at, hop_at, pit_at, section_at};
-use crate::numbers::{at_most, is_within, plus, scaled};
+use crate::entries::amount_at;
 use crate::plan::Plan;
+use crate::within::is_within;
+use algebra::{at_most, plus, scaled};
 use road_types::Road;
 
 /// Whether a pit's total (stage 0) or an amount of a stage is within its cap.
 pub fn keeps_caps(road: &Road, plan: &Plan, stage: usize, place: usize) -> bool
-    requires accepted { IsAccepted road.now }
+    requires well_formed { IsWellFormed road.now }
     requires fits { Fits road.now plan.now }
     requires pit { stage ≡ 0 → IsNumber place (pit_count road.now) }
     requires counted { 1 ≤ stage → IsNumber place (amount_count road.now) }
@@ -30,20 +31,20 @@ pub fn keeps_caps(road: &Road, plan: &Plan, stage: usize, place: usize) -> bool
 
 /// Whether a pit's total over its access roads and all stages is at most its capacity.
 fn is_pit_capped(road: &Road, plan: &Plan, number: usize) -> bool
-    requires accepted { IsAccepted road.now }
+    requires well_formed { IsWellFormed road.now }
     requires fits { Fits road.now plan.now }
     requires number { IsNumber number (pit_count road.now) }
     ensures { IsTrue result ↔ IsPitCapped road.now plan.now number }
 {
     at_most(
         pit_total(road, plan, number),
-        scaled(pit_at(road, number).capacity, plan.den),
+        scaled(road.pit(number).capacity, plan.den),
     )
 }
 
 /// What goes over all access roads of a pit in all stages.
 fn pit_total(road: &Road, plan: &Plan, number: usize) -> i128
-    requires accepted { IsAccepted road.now }
+    requires well_formed { IsWellFormed road.now }
     requires fits { Fits road.now plan.now }
     ensures { result ≡ sum_to (pit_share road.now plan.now number) (access_count road.now) }
 {
@@ -56,12 +57,12 @@ fn pit_total(road: &Road, plan: &Plan, number: usize) -> i128
 
 /// What goes over an access road in all stages; 0 where it belongs to another pit.
 fn pit_share(road: &Road, plan: &Plan, number: usize, access: usize) -> i128
-    requires accepted { IsAccepted road.now }
+    requires well_formed { IsWellFormed road.now }
     requires fits { Fits road.now plan.now }
     requires access { IsNumber access (access_count road.now) }
     ensures { result ≡ pit_share road.now plan.now number access }
 {
-    if access_at(road, access).pit == number {
+    if road.access(access).pit == number {
         road_total(road, plan, access)
     } else {
         0
@@ -70,7 +71,7 @@ fn pit_share(road: &Road, plan: &Plan, number: usize, access: usize) -> i128
 
 /// What goes over an access road in all stages.
 fn road_total(road: &Road, plan: &Plan, access: usize) -> i128
-    requires accepted { IsAccepted road.now }
+    requires well_formed { IsWellFormed road.now }
     requires fits { Fits road.now plan.now }
     ensures { result ≡ road_total plan.now access road.now.stages }
 {
@@ -83,7 +84,7 @@ fn road_total(road: &Road, plan: &Plan, access: usize) -> i128
 
 /// Whether the amount that is counted at a place of a stage is within its cap.
 fn is_amount_capped(road: &Road, plan: &Plan, stage: usize, place: usize) -> bool
-    requires accepted { IsAccepted road.now }
+    requires well_formed { IsWellFormed road.now }
     requires fits { Fits road.now plan.now }
     requires place { IsNumber place (amount_count road.now) }
     ensures { IsTrue result ↔ IsAmountCapped road.now plan.now stage place }
@@ -113,7 +114,7 @@ fn is_cut_capped(road: &Road, plan: &Plan, stage: usize, number: usize) -> bool
 {
     is_within(
         0,
-        section_at(road, number).cut_max,
+        road.section(number).cut_max,
         plan.den,
         amount_at(&plan.cut, stage, number),
     )
@@ -126,7 +127,7 @@ fn is_fill_capped(road: &Road, plan: &Plan, stage: usize, number: usize) -> bool
 {
     is_within(
         0,
-        section_at(road, number).fill_max,
+        road.section(number).fill_max,
         plan.den,
         amount_at(&plan.fill, stage, number),
     )
@@ -139,7 +140,7 @@ fn is_right_capped(road: &Road, plan: &Plan, stage: usize, number: usize) -> boo
 {
     is_within(
         0,
-        hop_at(road, number).right_max,
+        road.hop(number).right_max,
         plan.den,
         amount_at(&plan.right, stage, number),
     )
@@ -152,7 +153,7 @@ fn is_left_capped(road: &Road, plan: &Plan, stage: usize, number: usize) -> bool
 {
     is_within(
         0,
-        hop_at(road, number).left_max,
+        road.hop(number).left_max,
         plan.den,
         amount_at(&plan.left, stage, number),
     )
@@ -165,7 +166,7 @@ fn is_access_capped(road: &Road, plan: &Plan, stage: usize, number: usize) -> bo
 {
     is_within(
         0,
-        access_at(road, number).max,
+        road.access(number).max,
         plan.den,
         amount_at(&plan.roads, stage, number),
     )

@@ -1,41 +1,38 @@
 // What comes to a section and what leaves it.
-ghost use Rattle.std.specs.Prelude.{◌↔◌, IsTrue, ◌≡◌, ◌≤ℤ◌, ◌-◌, ◌+◌, pos, ℤ, ◌^◌, ◌≤◌, ◌*◌, unsigned_abs, ◌+ℤ◌};
+ghost use Rattle.std.specs.Prelude.{◌↔◌, IsTrue, ◌≡◌, ℤ, ◌^◌, ◌≤◌, ◌*◌, unsigned_abs};
 ghost use Rattle.algebra.specs.Sums.{sum_to};
 ghost use Rattle.road_types.specs.Numbered.{IsNumber};
 ghost use Rattle.road_types.specs.Road.{section_count, access_count};
-ghost use Rattle.road_types.specs.Accepted.{IsAccepted};
+ghost use Rattle.road_types.specs.WellFormed.{IsWellFormed};
 ghost use Rattle.plan_rules.specs.Fits.{Fits};
-ghost use Rattle.plan_rules.specs.FitsByParts.{HasModerateAmounts};
-ghost use Rattle.plan_rules.specs.Plans.{amount};
-ghost use Rattle.plan_rules.specs.Rules.{IsBalanced, access_share, hauled_in, hauled_out, borrowed_in, wasted_out};
+ghost use Rattle.plan_rules.specs.inside.FitsByParts.{HasModerateAmounts};
+ghost use Rattle.plan_rules.specs.Rules.{IsBalanced, access_share, hauled_in, hauled_out, earth_in, earth_out};
 
-use crate::entries::{access_at, amount_at, pit_at};
-use crate::numbers::{plus, same};
+use crate::entries::amount_at;
 use crate::plan::Plan;
+use algebra::{plus, same};
 use road_types::{PitKind, Road};
 
 /// Whether what comes to a section in a stage equals what leaves it.
 pub fn is_balanced(road: &Road, plan: &Plan, stage: usize, number: usize) -> bool
-    requires accepted { IsAccepted road.now }
+    requires well_formed { IsWellFormed road.now }
     requires fits { Fits road.now plan.now }
     requires number { IsNumber number (section_count road.now) }
     ensures { IsTrue result ↔ IsBalanced road.now plan.now stage number }
 {
     same(
-        coming(road, plan, stage, number),
-        leaving(road, plan, stage, number),
+        earth_in(road, plan, stage, number),
+        earth_out(road, plan, stage, number),
     )
 }
 
 /// What is cut in a section, hauled to it and borrowed for it in a stage.
 #[tactic(auto, using(crate::proofs::FitsLemmas::amounts_of_fits))]
-fn coming(road: &Road, plan: &Plan, stage: usize, number: usize) -> i128
-    requires accepted { IsAccepted road.now }
+fn earth_in(road: &Road, plan: &Plan, stage: usize, number: usize) -> i128
+    requires well_formed { IsWellFormed road.now }
     requires fits { Fits road.now plan.now }
     requires number { IsNumber number (section_count road.now) }
-    ensures { result
-        ≡ (amount plan.now.cut stage number +ℤ hauled_in plan.now stage number)
-        +ℤ borrowed_in road.now plan.now stage number }
+    ensures { result ≡ earth_in road.now plan.now stage number }
 {
     let borrowed = access_total(road, plan, PitKind::Borrow, stage, number);
     let cut = amount_at(&plan.cut, stage, number);
@@ -44,13 +41,11 @@ fn coming(road: &Road, plan: &Plan, stage: usize, number: usize) -> i128
 
 /// What is filled in a section, hauled from it and wasted of it in a stage.
 #[tactic(auto, using(crate::proofs::FitsLemmas::amounts_of_fits))]
-fn leaving(road: &Road, plan: &Plan, stage: usize, number: usize) -> i128
-    requires accepted { IsAccepted road.now }
+fn earth_out(road: &Road, plan: &Plan, stage: usize, number: usize) -> i128
+    requires well_formed { IsWellFormed road.now }
     requires fits { Fits road.now plan.now }
     requires number { IsNumber number (section_count road.now) }
-    ensures { result
-        ≡ (amount plan.now.fill stage number +ℤ hauled_out plan.now stage number)
-        +ℤ wasted_out road.now plan.now stage number }
+    ensures { result ≡ earth_out road.now plan.now stage number }
 {
     let wasted = access_total(road, plan, PitKind::Waste, stage, number);
     let fill = amount_at(&plan.fill, stage, number);
@@ -85,7 +80,7 @@ pub fn hauled_out(plan: &Plan, stage: usize, number: usize) -> i128
 
 /// What goes in a stage over all access roads between a section and pits of a kind.
 fn access_total(road: &Road, plan: &Plan, kind: PitKind, stage: usize, number: usize) -> i128
-    requires accepted { IsAccepted road.now }
+    requires well_formed { IsWellFormed road.now }
     requires fits { Fits road.now plan.now }
     ensures value { result ≡ sum_to (access_share road.now plan.now kind stage number) (access_count road.now) }
     ensures width { unsigned_abs result ≤ 16 * 10 ^ 30 }
@@ -109,13 +104,12 @@ fn access_share(
     number: usize,
     access: usize,
 ) -> i128
-    requires accepted { IsAccepted road.now }
+    requires well_formed { IsWellFormed road.now }
     requires fits { Fits road.now plan.now }
     requires access { IsNumber access (access_count road.now) }
     ensures { result ≡ access_share road.now plan.now kind stage number access }
 {
-    let at = access_at(road, access);
-    if at.section == number && pit_at(road, at.pit).kind == kind {
+    if road.serves(kind, number, access) {
         amount_at(&plan.roads, stage, access)
     } else {
         0

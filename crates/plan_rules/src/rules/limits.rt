@@ -2,20 +2,21 @@
 ghost use Rattle.std.specs.Prelude.{◌↔◌, IsTrue, ◌-◌};
 ghost use Rattle.road_types.specs.Numbered.{IsNumber};
 ghost use Rattle.road_types.specs.Road.{segment_count, fixed_count};
-ghost use Rattle.road_types.specs.Accepted.{IsAccepted};
+ghost use Rattle.road_types.specs.WellFormed.{IsWellFormed};
 ghost use Rattle.plan_rules.specs.Fits.{Fits};
 ghost use Rattle.plan_rules.specs.Rules.{IsInLimits, IsContinuous, EndsInGrade, PassesFixedPoint, IsLimited};
 
-use crate::entries::{fixed_at, piece_at};
+use crate::entries::piece_at;
 use crate::heights::{end_grade, end_height, height_on};
 use crate::logic::both;
-use crate::numbers::{is_within, opposite, same};
 use crate::plan::Plan;
+use crate::within::is_within;
+use algebra::{opposite, same};
 use road_types::Road;
 
 /// Whether a segment's numbers are within the road's limits.
 pub fn is_in_limits(road: &Road, plan: &Plan, segment: usize) -> bool
-    requires accepted { IsAccepted road.now }
+    requires well_formed { IsWellFormed road.now }
     requires fits { Fits road.now plan.now }
     ensures { IsTrue result ↔ IsInLimits road.now plan.now segment }
 {
@@ -28,7 +29,7 @@ pub fn is_in_limits(road: &Road, plan: &Plan, segment: usize) -> bool
 
 /// Whether the next segment begins with the height and the grade with which this one ends.
 pub fn is_continuous(road: &Road, plan: &Plan, segment: usize) -> bool
-    requires accepted { IsAccepted road.now }
+    requires well_formed { IsWellFormed road.now }
     requires fits { Fits road.now plan.now }
     requires limited { IsLimited road.now plan.now }
     requires segment { IsNumber segment (segment_count road.now - 1) }
@@ -42,7 +43,7 @@ pub fn is_continuous(road: &Road, plan: &Plan, segment: usize) -> bool
 
 /// Whether the grade at a segment's end is within the road's limits.
 pub fn ends_in_grade(road: &Road, plan: &Plan, segment: usize) -> bool
-    requires accepted { IsAccepted road.now }
+    requires well_formed { IsWellFormed road.now }
     requires fits { Fits road.now plan.now }
     requires limited { IsLimited road.now plan.now }
     requires segment { IsNumber segment (segment_count road.now) }
@@ -58,13 +59,13 @@ pub fn ends_in_grade(road: &Road, plan: &Plan, segment: usize) -> bool
 
 /// Whether the height at a fixed point is within its limits.
 pub fn passes_fixed_point(road: &Road, plan: &Plan, number: usize) -> bool
-    requires accepted { IsAccepted road.now }
+    requires well_formed { IsWellFormed road.now }
     requires fits { Fits road.now plan.now }
     requires limited { IsLimited road.now plan.now }
     requires number { IsNumber number (fixed_count road.now) }
     ensures { IsTrue result ↔ PassesFixedPoint road.now plan.now number }
 {
-    let fixed = fixed_at(road, number);
+    let fixed = road.fixed_point(number);
     is_within(
         fixed.low,
         fixed.high,

@@ -3,7 +3,7 @@ ghost use Rattle.std.specs.Prelude.{◌≡◌, length};
 ghost use Rattle.std.specs.List.{list_all};
 ghost use Rattle.road_types.specs.RecordFaults.{has_few_slabs, stretch_counts_hold, counts_hold, budgets_hold};
 
-use super::ranges::is_between;
+use crate::ranges::is_between;
 use crate::{Road, Section};
 
 fn has_few_slabs(s: &Section) -> bool

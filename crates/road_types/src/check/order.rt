@@ -3,7 +3,7 @@ ghost use Rattle.std.specs.Prelude.{◌≡◌, ◌+◌, ◌≤◌, length, int_l
 ghost use Rattle.std.specs.List.{list_all};
 ghost use Rattle.road_types.specs.RecordFaults.{rises, comes_before, stations_rise, first_of, last_of, is_on_knots, sections_on_knots, knots_hold, low_holds, lows_hold};
 
-use super::ranges::is_between;
+use crate::ranges::is_between;
 use crate::{Fixed, Road, Section};
 
 fn is_less(x: &i64, y: &i64) -> bool

@@ -1,6 +1,6 @@
 use Rattle.std.proofs.Common.{◌≡◌, Option, Some, None, MatchOption, subst, refl, sym}
 use Rattle.std.specs.FinMap.{get}
-use Rattle.outside.specs.Entry.{files_of}
+use Rattle.outside.specs.inside.Entry.{files_of}
 use Rattle.outside.proofs.EntryChanges.{file_at}
 use Rattle.outside.proofs.EntryLemmas.{get-map_of_none, none_from_position, first_from_position}
 use Rattle.outside.proofs.entries.file_of.Goals as goal

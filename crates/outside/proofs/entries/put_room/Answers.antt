@@ -1,7 +1,7 @@
 use Rattle.std.proofs.Common.{◌∙◌, ap}
 use Rattle.std.proofs.lemmas.Result.{on_ok_weaker}
 use Rattle.std.specs.FinMap.{get, insert}
-use Rattle.outside.specs.Entry.{room_with}
+use Rattle.outside.specs.MemStore.{room_with}
 use Rattle.outside.proofs.EntryChanges.{rooms-room, after_room}
 use Rattle.outside.proofs.entries.put_room.Goals as goal
 

@@ -16,5 +16,5 @@ returns c =
     let den = simp to_z-of_z at c.is_denominator.ensures in
     let numbers = both_tells _ _ _ c.both-moderate.ensures den (rw c.as_slice.ensures at c.all_moderate_pieces.ensures) (λ h. h) (λ h. h) in
     both_tells _ _ _ c.both.ensures lengths numbers
-    (λ h. record { den_from = h.1.0.0; den_to = h.1.0.1; pieces_count = h.0.0; pieces = pieces_moderate plan.pieces h.1.1; opens = h.0.1 })
-    (λ h. ((h.pieces_count, h.opens), ((h.den_from, h.den_to), moderate_pieces plan.pieces h.pieces)))
+    (λ h. record { den = h.1.0; pieces_count = h.0.0; pieces = pieces_moderate plan.pieces h.1.1; opens = h.0.1 })
+    (λ h. ((h.pieces_count, h.opens), (h.den, moderate_pieces plan.pieces h.pieces)))

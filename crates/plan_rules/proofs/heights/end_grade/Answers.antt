@@ -1,6 +1,6 @@
 use Rattle.plan_rules.proofs.HeightWidths.{small_piece}
 use Rattle.plan_rules.proofs.heights.end_grade.Goals as goal
 
-pub grade_along-requires-clause-small : goal.grade_along-requires-clause-small
-grade_along-requires-clause-small c =
-    rw c.piece_at.ensures (small_piece c.args.road.now c.args.plan.now c.requires.accepted c.requires.fits c.requires.limited c.args.segment c.requires.segment)
+pub piece_grade-requires-clause-small : goal.piece_grade-requires-clause-small
+piece_grade-requires-clause-small c =
+    rw c.piece_at.ensures (small_piece c.args.road.now c.args.plan.now c.requires.well_formed c.requires.fits c.requires.limited c.args.segment c.requires.segment)

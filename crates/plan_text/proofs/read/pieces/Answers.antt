@@ -1,5 +1,5 @@
 use Rattle.std.proofs.Common.{◌≡◌, ◌-◌, ◌+◌, Ok, ◌∙◌, arith}
-use Rattle.plan_text.specs.Plans.{piece_due}
+use Rattle.plan_text.specs.inside.PlanReading.{piece_due}
 use Rattle.plan_text.proofs.RepeatLemmas.{repeat_step}
 use Rattle.plan_text.proofs.read.pieces.Goals as goal
 

@@ -1,6 +1,6 @@
 use Rattle.std.proofs.Common.{◌≡◌, ◌-◌}
-use Rattle.plan_text.specs.Reading.{repeat_due}
-use Rattle.plan_text.specs.Plans.{piece_due}
+use Rattle.plan_text.specs.inside.LineReading.{repeat_due}
+use Rattle.plan_text.specs.inside.PlanReading.{piece_due}
 use Rattle.plan_text.proofs.RepeatLemmas.{with_front}
 use Rattle.plan_text.proofs.read.pieces.Given as goal
 

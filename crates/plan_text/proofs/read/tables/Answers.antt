@@ -1,6 +1,6 @@
 use Rattle.std.proofs.Common.{◌≡◌, ◌-◌, ◌+◌, Ok, ◌∙◌, arith}
 use Rattle.std.proofs.lemmas.Result.{err_from_is_err_and}
-use Rattle.plan_text.specs.Plans.{stage_due}
+use Rattle.plan_text.specs.inside.PlanReading.{stage_due}
 use Rattle.plan_text.proofs.RepeatLemmas.{stages_start, stages_step, stages_gives}
 use Rattle.plan_text.proofs.read.tables.Goals as goal
 

@@ -1,6 +1,6 @@
 use Rattle.std.proofs.Common.{◌≡◌, ◌-◌}
-use Rattle.plan_text.specs.Reading.{repeat_due}
-use Rattle.plan_text.specs.Plans.{stage_due, tables_due}
+use Rattle.plan_text.specs.inside.LineReading.{repeat_due}
+use Rattle.plan_text.specs.inside.PlanReading.{stage_due, tables_due}
 use Rattle.plan_text.proofs.RepeatLemmas.{with_stages}
 use Rattle.plan_text.proofs.read.tables.Given as goal
 

@@ -1,5 +1,5 @@
 use Rattle.std.proofs.Common.{◌≡◌, ◌++◌, take}
-use Rattle.plan_text.specs.Forms.{spelled_row}
+use Rattle.plan_text.specs.LineForms.{spelled_row}
 use Rattle.plan_text.proofs.write.push_line.Given as goal
 
 abbrev pub invariant-loop-number : goal.invariant-loop-number

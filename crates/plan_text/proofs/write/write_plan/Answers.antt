@@ -1,6 +1,8 @@
-use Rattle.plan_text.proofs.AnswerLaws.{apart_on_ok}
+use Rattle.plan_text.proofs.AnswerLaws.{are_apart}
 use Rattle.plan_text.proofs.write.write_plan.Goals as goal
 
 pub returns-clause-apart : goal.returns-clause-apart
-returns-clause-apart c =
-    apart_on_ok c.extend_from_slice.result c.args.road.now c.args.plan.now (record { fits = c.requires; openings = c.in_ok-text.ensures.bytes })
+returns-clause-apart c = are_apart c.args.road.now
+
+pub returns-in_err-text-clause-apart : goal.returns-in_err-text-clause-apart
+returns-in_err-text-clause-apart c = are_apart c.args.road.now

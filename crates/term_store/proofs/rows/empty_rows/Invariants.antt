@@ -1,5 +1,5 @@
 use Rattle.std.proofs.Common.{◌≡◌, vec_len, vec_capacity}
-use Rattle.term_store.specs.HeldRows.{AllHaveRoom}
+use Rattle.term_store.specs.inside.Lending.{AllHaveRoom}
 use Rattle.term_store.proofs.rows.empty_rows.Given as goal
 
 abbrev pub invariant-loop-row : goal.invariant-loop-row

@@ -3,7 +3,7 @@ use Rattle.std.specs.Prelude.{FitsSigned}
 use Rattle.std.specs.Int.{w128}
 use Rattle.std.proofs.lemmas.Int.{to_z-of_z, to_z_pos}
 use Rattle.numbers.specs.Fractions.{IsReduced, HasValue}
-use Rattle.numbers.proofs.FractionsLemmas.{no_fraction, same_value_fraction, made_value, made_reduced}
+use Rattle.numbers.proofs.FractionsLemmas.{has_fraction, no_fraction, same_value_fraction, made_value, made_reduced}
 use Rattle.numbers.proofs.fraction.Frac.new.Goals as goal
 use Rattle.numbers.proofs.fraction.Frac.new.Goals.{then-size-gt-GREATEST-via-then-size-gt-GREATEST, then-size-gt-GREATEST-via-else-size-gt-GREATEST+then-bottom-gt-GREATEST}
 
@@ -23,6 +23,10 @@ returns-then-size-gt-GREATEST-clause-some c =
                 absurd (no_fraction t d c.args.num c.args.den low (inr (omega arith)) found)
           ],
     )
+
+pub returns-then-size-gt-GREATEST-clause-in_range : goal.returns-then-size-gt-GREATEST-clause-in_range
+returns-then-size-gt-GREATEST-clause-in_range c defined p q =
+    (returns-then-size-gt-GREATEST-clause-some c).1 (has_fraction c.args.num c.args.den defined p q)
 
 made : (c : goal.After-signed) → IsReduced (record { num = to_z w128 (of_z w128 c.signed.result); den = to_z w128 c.lowest_magnitudes-size.result.1 }) × HasValue (record { num = to_z w128 (of_z w128 c.signed.result); den = to_z w128 c.lowest_magnitudes-size.result.1 }) c.args.num c.args.den
 made c =

@@ -1,6 +1,6 @@
 use Rattle.std.proofs.Common.{◌≡◌, ap, ◌∙◌}
 use Rattle.std.specs.Cmp.Lexicographic.{texts_ties}
-use Rattle.outside.specs.Entry.{NamedFile}
+use Rattle.outside.specs.inside.Entry.{NamedFile}
 use Rattle.outside.proofs.entry.Entry.is_named.Goals as goal
 
 pub returns : goal.returns

@@ -5,7 +5,7 @@ use Rattle.plan_rules.proofs.rules.caps.is_access_capped.Goals as goal
 
 pub returns : goal.returns
 returns c =
-    let cap : FitsSigned w64 c.access_at.result.max = search rules in
+    let cap : FitsSigned w64 c.access.result.max = search rules in
     let den : FitsSigned w128 c.args.plan.now.den = search rules in
     let amount : FitsSigned w128 c.amount_at.result = search rules in
-    rw (c.access_at.ensures, c.amount_at.ensures) at (simp to_z-of_z at c.is_within.ensures)
+    rw (c.access.ensures, c.amount_at.ensures) at (simp to_z-of_z at c.is_within.ensures)

@@ -6,7 +6,7 @@ use Rattle.plan_rules.proofs.rules.caps.is_pit_capped.Goals as goal
 pub returns : goal.returns
 returns c =
     let den : FitsSigned w128 c.args.plan.now.den = search rules in
-    let capacity : FitsSigned w64 c.pit_at.result.now.capacity = search rules in
+    let capacity : FitsSigned w64 c.pit.result.now.capacity = search rules in
     let total : FitsSigned w128 c.pit_total.result = search rules in
     let most : FitsSigned w128 c.scaled.result = search rules in
-    rw (c.pit_total.ensures, simp to_z-of_z at c.scaled.ensures, c.pit_at.ensures) at (simp to_z-of_z at c.at_most.ensures)
+    rw (c.pit_total.ensures, simp to_z-of_z at c.scaled.ensures, c.pit.ensures) at (simp to_z-of_z at c.at_most.ensures)

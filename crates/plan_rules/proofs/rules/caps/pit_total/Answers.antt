@@ -13,8 +13,8 @@ plus-total-requires c =
     let road = c.args.road.now in
     let plan = c.args.plan.now in
     let amounts = amounts_of_fits road plan c.requires.fits in
-    let few : access_count road * (4 * 10 ^ 30) < 2 ^ 127 = omega (arith, c.requires.accepted.roads_to) in
-    let fits = sum_step_fits (pit_share c.args.road.now c.args.plan.now c.args.number) (4 * 10 ^ 30) (access_count road) c.loop-before.before (λ q _ _. pit_share_width road plan amounts c.requires.accepted.stages_to c.args.number q) (omega arith) few in
+    let few : access_count road * (4 * 10 ^ 30) < 2 ^ 127 = omega (arith, c.requires.well_formed.counted.roads_to) in
+    let fits = sum_step_fits (pit_share c.args.road.now c.args.plan.now c.args.number) (4 * 10 ^ 30) (access_count road) c.loop-before.before (λ q _ _. pit_share_width road plan amounts c.requires.well_formed.counted.stages_to c.args.number q) (omega arith) few in
     let part : FitsSigned w128 c.pit_share.result = search rules in
     simp to_z-of_z (rw (c.loop-before.invariant, c.pit_share.ensures) fits)
 

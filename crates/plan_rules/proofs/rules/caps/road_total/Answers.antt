@@ -11,7 +11,7 @@ plus-total-requires c =
     let road = c.args.road.now in
     let plan = c.args.plan.now in
     let amounts = amounts_of_fits road plan c.requires.fits in
-    let few : road.stages * (10 ^ 30) < 2 ^ 127 = omega (arith, c.requires.accepted.stages_to) in
+    let few : road.stages * (10 ^ 30) < 2 ^ 127 = omega (arith, c.requires.well_formed.counted.stages_to) in
     let fits = sum_step_fits (λ t. amount c.args.plan.now.roads t c.args.access) (10 ^ 30) (road.stages) c.loop-before.before (λ t _ _. omega (arith, amounts.roads t c.args.access)) c.loop-before-test.true few in
     let part : FitsSigned w128 c.amount_at.result = search rules in
     simp to_z-of_z (rw (c.loop-before.invariant, c.amount_at.ensures) fits)

@@ -14,7 +14,7 @@ plus-total-requires c =
     let road = c.args.road.now in
     let plan = c.args.plan.now in
     let amounts = amounts_of_fits road plan c.requires.fits in
-    let few : access_count road * (10 ^ 30) < 2 ^ 127 = omega (arith, c.requires.accepted.roads_to) in
+    let few : access_count road * (10 ^ 30) < 2 ^ 127 = omega (arith, c.requires.well_formed.counted.roads_to) in
     let fits = sum_step_fits (access_share c.args.road.now c.args.plan.now c.args.kind c.args.stage c.args.number) (10 ^ 30) (access_count road) c.loop-before.before (λ q _ _. access_share_width road plan amounts c.args.kind c.args.stage c.args.number q) (omega arith) few in
     let part : FitsSigned w128 c.access_share.result = search rules in
     simp to_z-of_z (rw (c.loop-before.invariant, c.access_share.ensures) fits)
@@ -34,4 +34,4 @@ returns-clause-width c =
     let amounts = amounts_of_fits road plan c.requires.fits in
     let width = sum_width (access_share c.args.road.now c.args.plan.now c.args.kind c.args.stage c.args.number) (10 ^ 30) (access_count road) c.loop-before.before (λ q _ _. access_share_width road plan amounts c.args.kind c.args.stage c.args.number q) (omega arith) in
     let total : unsigned_abs (to_z w128 c.loop-before.total-bits) ≤ access_count road * (10 ^ 30) = rw c.loop-before.invariant width in
-    omega (arith, c.requires.accepted.roads_to)
+    omega (arith, c.requires.well_formed.counted.roads_to)

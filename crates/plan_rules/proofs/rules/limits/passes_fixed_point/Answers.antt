@@ -6,8 +6,8 @@ use Rattle.plan_rules.proofs.rules.limits.passes_fixed_point.Goals as goal
 pub returns : goal.returns
 returns c =
     let den : FitsSigned w128 c.args.plan.now.den = search rules in
-    let low : FitsSigned w64 c.fixed_at-fixed.result.low = search rules in
-    let high : FitsSigned w64 c.fixed_at-fixed.result.high = search rules in
-    let station : FitsSigned w64 c.fixed_at-fixed.result.station = search rules in
+    let low : FitsSigned w64 c.fixed_point-fixed.result.low = search rules in
+    let high : FitsSigned w64 c.fixed_point-fixed.result.high = search rules in
+    let station : FitsSigned w64 c.fixed_point-fixed.result.station = search rules in
     let height : FitsSigned w128 c.height_on.result = search rules in
-    rw (simp to_z-of_z at c.height_on.ensures.value, c.fixed_at-fixed.ensures) at (simp to_z-of_z at c.is_within.ensures)
+    rw (simp to_z-of_z at c.height_on.ensures.value, c.fixed_point-fixed.ensures) at (simp to_z-of_z at c.is_within.ensures)

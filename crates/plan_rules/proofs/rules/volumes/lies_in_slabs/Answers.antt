@@ -26,4 +26,4 @@ returns-clause-width c =
     let least : unsigned_abs c.opposite-below.result ≤ 40000000 = omega (arith, ints, c.opposite-below.ensures, c.thickness_of.ensures.from, c.thickness_of.ensures.to) in
     let most : unsigned_abs c.thickness_of-above.result ≤ 40000000 = omega (arith, ints, c.thickness_of-above.ensures.from, c.thickness_of-above.ensures.to) in
     let within = simp to_z-of_z at c.is_within.ensures in
-    λ t. omega (arith, within_width _ _ c.args.den c.args.offset 40000000 (record { from_one = c.requires.den_from; at_most = c.requires.den_to }) least most (within.0 t))
+    λ t. omega (arith, within_width _ _ c.args.den c.args.offset 40000000 c.requires.den least most (within.0 t))

@@ -12,7 +12,7 @@ plus-total-requires c =
     let road = c.args.road.now in
     let plan = c.args.plan.now in
     let amounts = amounts_of_fits road plan c.requires.fits in
-    let few : road.stages * (2 * 10 ^ 30) < 2 ^ 127 = omega (arith, c.requires.accepted.stages_to) in
+    let few : road.stages * (2 * 10 ^ 30) < 2 ^ 127 = omega (arith, c.requires.well_formed.counted.stages_to) in
     let fits = sum_step_fits (fill_less_cut c.args.plan.now c.args.number) (2 * 10 ^ 30) (road.stages) c.loop-before.before (λ t _ _. fill_less_cut_width plan amounts c.args.number t) c.loop-before-test.true few in
     let part : FitsSigned w128 c.fill_less_cut.result = search rules in
     simp to_z-of_z (rw (c.loop-before.invariant, c.fill_less_cut.ensures) fits)

@@ -1,5 +1,5 @@
 use Rattle.std.proofs.Common.{◌≡◌}
-use Rattle.plan_text.specs.Forms.{numbers_of}
+use Rattle.plan_text.specs.LineForms.{numbers_of}
 use Rattle.plan_text.proofs.FormLemmas.{numbers_with}
 use Rattle.plan_text.proofs.form.Form.numbers.Given as goal
 

@@ -1,5 +1,5 @@
 use Rattle.std.proofs.Common.{◌≡◌, sym, ◌∙◌}
-use Rattle.plan_text.specs.Forms.{line_numbers}
+use Rattle.plan_text.specs.LineForms.{line_numbers}
 use Rattle.plan_text.proofs.FormLaws.{line_is}
 use Rattle.plan_text.proofs.form.Form.read.Goals as goal
 

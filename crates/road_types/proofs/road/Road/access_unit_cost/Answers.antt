@@ -14,7 +14,7 @@ returns c =
     let at_pit : FitsSigned w64 c.pit.result.now.cost = search rules in
     let own_is : c.access-access.result.cost ≡ (access road c.args.number).cost = ap (λ (a : Access). a.cost) c.access-access.ensures in
     let pit_is : c.pit.result.now.cost ≡ (pit road (access road c.args.number).pit).cost =
-      ap (λ (p : Pit). p.cost) c.pit.ensures ∙ ap (λ (a : Access). (pit road a.pit).cost) c.access-access.ensures in
+    ap (λ (p : Pit). p.cost) c.pit.ensures ∙ ap (λ (a : Access). (pit road a.pit).cost) c.access-access.ensures in
     let a = c.requires.well_formed.roads c.args.number c.requires.number in
     let p = c.requires.well_formed.pits (access road c.args.number).pit a.pit in
     let total : FitsSigned w64 (c.access-access.result.cost +ℤ c.pit.result.now.cost) = omega (arith, ints, own_is, pit_is, a.cost.at_least, a.cost.at_most, p.cost.at_least, p.cost.at_most) in

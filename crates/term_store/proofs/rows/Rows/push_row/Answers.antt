@@ -1,5 +1,6 @@
-use Rattle.std.proofs.Common.{ap, ◌∙◌, ◌++◌, ◌∷◌, [], min}
-use Rattle.term_store.proofs.RowsLemmas.{after_push, same_width, wide}
+use Rattle.std.proofs.Common.{ap, ◌∙◌, ◌++◌, ◌∷◌, ◌+◌, [], min}
+use Rattle.term_store.specs.inside.Lending.{seen}
+use Rattle.term_store.proofs.RowsLemmas.{after_push, same_width, wide, fit_after_push}
 use Rattle.term_store.proofs.rows.Rows.push_row.Goals as goal
 
 pub returns-clause-rows : goal.returns-clause-rows
@@ -13,3 +14,8 @@ returns-clause-width g c =
     same_width _ _ _ _ _ _ c.self.view_is _ _
     (c.min-self-inside.ensures ∙ ap (min c.self.inside.width) c.room.ensures)
     (rw c.refill.ensures.room (wide c.self.inside.width _ _ c.self.inside.kept c.keep_apart.new.kept c.self.invariant.1.1 c.keep_apart.ensures.rooms).0)
+
+pub returns-clause-fit : goal.returns-clause-fit
+returns-clause-fit g c all =
+    fit_after_push c.args.self.now (seen (c.self.inside.count + 1) c.min-self-inside.result c.keep_apart.new.rows.items c.keep_apart.new.place c.refill.new.self)
+    (returns-clause-width g c) all c.args.terms.now (returns-clause-rows g c) c.requires.fits

@@ -1,0 +1,3 @@
+pub mod FitsByParts
+pub mod Widths
+pub mod Scans

@@ -1,0 +1,197 @@
+-- Told files leave one due end: its status, its output and its file. And what kind of end is due.
+use Rattle.std.specs.Prelude.{ℕ, ◌<◌, zero, suc, ◌-◌, IsTrue, Option, Some, None, Result, Ok, Err, List, [], ◌∷◌, ℤ}
+use Rattle.std.proofs.Common.{◌≡◌, get_or, arith, sym, refl, ap, subst, ◌∙◌}
+use Rattle.outside.specs.Files.{Files}
+use Rattle.road_types.specs.declared.fault.Fault.{Fault}
+use Rattle.road_types.specs.declared.road.Road.{Road}
+use Rattle.road_file.specs.RoadOf.{road_of}
+use Rattle.plan_rules.specs.declared.plan.Plan.{Plan}
+use Rattle.plan_rules.specs.declared.verdict.Rule.{Rule}
+use Rattle.plan_rules.specs.declared.verdict.Rule.TheVariants.{P1, P2, P3, P4, P5, P6, P7, P8, P9}
+use Rattle.plan_rules.specs.Costs.{cost_of}
+use Rattle.plan_rules.specs.Rules.{IsFirstBroken, rule_number}
+use Rattle.plan_text.specs.inside.PlanReading.{plan_of_text}
+use Rattle.plan_text.specs.Misfits.{refused_line}
+use Rattle.plan_text.proofs.AnswerLaws.{plan_of_text-exact}
+use Rattle.numbers.proofs.FractionsLemmas.{same_value_fraction}
+use Rattle.roadopt_program.specs.declared.forms.Verb.{Verb}
+use Rattle.roadopt_program.specs.declared.forms.Verb.TheVariants.{Judge}
+use Rattle.roadopt_program.specs.declared.status.Status.{Status}
+use Rattle.roadopt_program.specs.declared.status.Status.TheVariants.{Done, PlanBroken, PlanRefused, Missing}
+use Rattle.roadopt_program.specs.Due.{keeps_rules, road_due, FollowsRoad, Follows, IsDue, Due}
+use Rattle.roadopt_program.specs.Ends.{End, missing_end}
+use Rattle.roadopt_program.specs.Forms.{Command, command_of}
+use Rattle.roadopt_program.specs.Inputs.{Given}
+use Rattle.roadopt_program.specs.Judging.{PrintsFraction, PrintsFirstBroken, PrintsRefusedLine, OfPlan, JudgesText, OfPlanBytes}
+use Rattle.roadopt_program.specs.Printed.{plan_refused_line, broken_line, admissible_line}
+use Rattle.roadopt_program.specs.Runs.{HasOneEnd}
+use Rattle.roadopt_program.specs.Statuses.{exit_status}
+use Rattle.roadopt_program.proofs.StatusLemmas.{may_be_due}
+
+same_ok : {A E : Type 0} (r : Result A E) (x y : A) → r ≡ Ok x → r ≡ Ok y → x ≡ y
+same_ok r x y p q = cc
+
+same_some : {A : Type 0} (o : Option A) (x y : A) → o ≡ Some x → o ≡ Some y → x ≡ y
+same_some o x y p q = cc
+
+same_number : (n m : ℕ) → (n < m → ⊥) → (m < n → ⊥) → n ≡ m
+same_number zero zero p q = refl
+same_number zero (suc m) p q = absurd (p (omega arith))
+same_number (suc n) zero p q = absurd (q (omega arith))
+same_number (suc n) (suc m) p q = ap suc (same_number n m (λ l. p (omega (arith, l))) (λ l. q (omega (arith, l))))
+
+-- ---- the first broken rule is one
+
+rule_at : ℕ → Rule
+rule_at n = get_or (P1 ∷ P2 ∷ P3 ∷ P4 ∷ P5 ∷ P6 ∷ P7 ∷ P8 ∷ P9 ∷ []) (n - 1) P1
+
+rule_at-number : (r : Rule) → rule_at (rule_number r) ≡ r
+unfolding rule_at
+rule_at-number P1 = refl
+rule_at-number P2 = refl
+rule_at-number P3 = refl
+rule_at-number P4 = refl
+rule_at-number P5 = refl
+rule_at-number P6 = refl
+rule_at-number P7 = refl
+rule_at-number P8 = refl
+rule_at-number P9 = refl
+
+less_rule : (road : Road) (plan : Plan) (r s : Rule) (t u p q : ℕ) → IsFirstBroken road plan r t p → IsFirstBroken road plan s u q → rule_number r < rule_number s → ⊥
+less_rule road plan r s t u p q a b l = a.broken.not_kept (b.lesser_rules r t p l a.broken.is_place)
+
+same_rule : (road : Road) (plan : Plan) (r s : Rule) (t u p q : ℕ) → IsFirstBroken road plan r t p → IsFirstBroken road plan s u q → r ≡ s
+same_rule road plan r s t u p q a b =
+    let numbers : rule_number r ≡ rule_number s = same_number (rule_number r) (rule_number s) (less_rule road plan r s t u p q a b) (less_rule road plan s r u t q p b a) in
+    sym (rule_at-number r) ∙ ap rule_at numbers ∙ rule_at-number s
+
+less_stage : (road : Road) (plan : Plan) (r : Rule) (t u p q : ℕ) → IsFirstBroken road plan r t p → IsFirstBroken road plan r u q → t < u → ⊥
+less_stage road plan r t u p q a b l = a.broken.not_kept (b.lesser_stages t p l a.broken.is_place)
+
+same_stage : (road : Road) (plan : Plan) (r : Rule) (t u p q : ℕ) → IsFirstBroken road plan r t p → IsFirstBroken road plan r u q → t ≡ u
+same_stage road plan r t u p q a b = same_number t u (less_stage road plan r t u p q a b) (less_stage road plan r u t q p b a)
+
+less_place : (road : Road) (plan : Plan) (r : Rule) (t p q : ℕ) → IsFirstBroken road plan r t p → IsFirstBroken road plan r t q → p < q → ⊥
+less_place road plan r t p q a b l = a.broken.not_kept (b.lesser_places p l a.broken.is_place)
+
+same_place : (road : Road) (plan : Plan) (r : Rule) (t p q : ℕ) → IsFirstBroken road plan r t p → IsFirstBroken road plan r t q → p ≡ q
+same_place road plan r t p q a b = same_number p q (less_place road plan r t p q a b) (less_place road plan r t q p b a)
+
+same_broken_line : (road : Road) (plan : Plan) (l k : List ℕ) → PrintsFirstBroken road plan l → PrintsFirstBroken road plan k → l ≡ k
+same_broken_line road plan l k a b =
+    let rules : b.rule ≡ a.rule = same_rule road plan b.rule a.rule b.stage a.stage b.place a.place b.first a.first in
+    let first : IsFirstBroken road plan a.rule b.stage b.place = subst (λ (r : Rule). IsFirstBroken road plan r b.stage b.place) rules b.first in
+    let stages : b.stage ≡ a.stage = same_stage road plan a.rule b.stage a.stage b.place a.place first a.first in
+    let here : IsFirstBroken road plan a.rule a.stage b.place = subst (λ (t : ℕ). IsFirstBroken road plan a.rule t b.place) stages first in
+    let places : b.place ≡ a.place = same_place road plan a.rule a.stage b.place a.place here a.first in
+    let line : broken_line b.rule b.stage b.place ≡ broken_line a.rule a.stage a.place =
+    ap (λ r. broken_line r b.stage b.place) rules ∙ ap (λ t. broken_line a.rule t b.place) stages ∙ ap (λ p. broken_line a.rule a.stage p) places in
+    a.line_is ∙ sym line ∙ sym b.line_is
+
+-- ---- the lines of a judge are one
+
+same_cost_line : (num den : ℤ) (l k : List ℕ) → PrintsFraction num den l → PrintsFraction num den k → l ≡ k
+same_cost_line num den l k a b =
+    a.line_is ∙ ap admissible_line (same_value_fraction a.cost b.cost num den a.reduced.lowest b.reduced.lowest a.value b.value) ∙ sym b.line_is
+
+same_refused_line : (road : Road) (bytes l k : List ℕ) → PrintsRefusedLine road bytes l → PrintsRefusedLine road bytes k → l ≡ k
+same_refused_line road bytes l k a b =
+    a.line_is ∙ ap plan_refused_line (same_some (refused_line road bytes) a.number b.number a.refused b.refused) ∙ sym b.line_is
+
+same_of_plan : (road : Road) (plan : Plan) (s t : Status) (l k : List ℕ) → OfPlan road plan s l → OfPlan road plan t k → (s ≡ t) × (l ≡ k)
+same_of_plan road plan Done Done l k a b = (refl, same_cost_line (cost_of road plan) plan.den l k a.prints b.prints)
+same_of_plan road plan PlanBroken PlanBroken l k a b = (refl, same_broken_line road plan l k a b)
+same_of_plan road plan Done PlanBroken l k a b = absurd (b.first.broken.not_kept (a.admissible.keeps b.rule b.stage b.place b.first.broken.is_place))
+same_of_plan road plan PlanBroken Done l k a b = absurd (a.first.broken.not_kept (b.admissible.keeps a.rule a.stage a.place a.first.broken.is_place))
+same_of_plan road plan Done _ l k a b = absurd b
+same_of_plan road plan PlanBroken _ l k a b = absurd b
+same_of_plan road plan _ t l k a b = absurd a
+
+same_of_text : (road : Road) (bytes : List ℕ) (s t : Status) (l k : List ℕ) → JudgesText road bytes s l → JudgesText road bytes t k → (s ≡ t) × (l ≡ k)
+same_of_text road bytes s t l k a b =
+    let same : a.plan ≡ b.plan = same_ok (plan_of_text road bytes) a.plan b.plan (plan_of_text-exact road bytes a.plan a.text) (plan_of_text-exact road bytes b.plan b.text) in
+    same_of_plan road b.plan s t l k (subst (λ (p : Plan). OfPlan road p s l) same a.judged) b.judged
+
+same_of_bytes : (road : Road) (bytes : List ℕ) (s t : Status) (l k : List ℕ) → OfPlanBytes road bytes s l → OfPlanBytes road bytes t k → (s ≡ t) × (l ≡ k)
+same_of_bytes road bytes PlanRefused PlanRefused l k a b = (refl, same_refused_line road bytes l k a b)
+same_of_bytes road bytes PlanRefused _ l k a b = absurd (a.none b.plan b.text)
+same_of_bytes road bytes _ PlanRefused l k a b = absurd (b.none a.plan a.text)
+same_of_bytes road bytes _ _ l k a b = same_of_text road bytes _ _ l k a b
+
+-- ---- the end is one
+
+same_end : (a b : End) → a.status ≡ b.status → a.output ≡ b.output → a.file ≡ b.file → a ≡ b
+same_end a b p q r = λ i. record { status = p i; output = q i; file = r i }
+
+same_given : (g h : Given) → g.road ≡ h.road → g.table ≡ h.table → g.other ≡ h.other → g ≡ h
+same_given g h p q r = λ i. record { road = p i; table = q i; other = r i }
+
+same_on_road : (verb : Verb) (road : Road) (other : Option (List ℕ)) (a b : End) → FollowsRoad verb road other a → FollowsRoad verb road other b → a ≡ b
+same_on_road Judge road None a b p q = p ∙ sym q
+same_on_road Judge road (Some bytes) a b p q =
+    let both = same_of_bytes road bytes a.status b.status a.output b.output p.0 q.0 in
+    same_end a b both.0 both.1 (p.1 ∙ sym q.1)
+
+same_after : (verb : Verb) (made : Result Road End) (other : Option (List ℕ)) (a b : End) → Follows verb made other a → Follows verb made other b → a ≡ b
+same_after verb (Err early) other a b p q = p ∙ sym q
+same_after verb (Ok road) other a b p q = same_on_road verb road other a b p q
+
+same_due : (files : Files) (command : Command) (a b : End) → IsDue (Some files) command a → IsDue (Some files) command b → a ≡ b
+same_due files command a b p q =
+    let same : q.given ≡ p.given = same_given q.given p.given (q.are_given.road ∙ sym p.are_given.road) (q.are_given.table ∙ sym p.are_given.table) (q.are_given.other ∙ sym p.are_given.other) in
+    same_after command.verb (road_due p.given.road p.given.table) p.given.other a b p.follows
+    (subst (λ (g : Given). Follows command.verb (road_due g.road g.table) g.other b) same q.follows)
+
+same_told : (files : Files) (words : List (List ℕ)) (a b : End) → Due (Some files) words a → Due (Some files) words b → a ≡ b
+same_told files words a b p q =
+    let same : q.command ≡ p.command = same_some (command_of words) q.command p.command q.form p.form in
+    same_due files p.command a b p.is_due (subst (λ (c : Command). IsDue (Some files) c b) same q.is_due)
+
+-- for told files and words one end is due at the most
+pub one_end : (told : Option Files) (words : List (List ℕ)) → HasOneEnd told words
+one_end told words files a b is p q =
+    same_told files words a b (subst (λ (t : Option Files). Due t words a) is p) (subst (λ (t : Option Files). Due t words b) is q)
+
+-- ---- which ends are due
+
+bytes_status : (road : Road) (bytes : List ℕ) (s : Status) (l : List ℕ) → OfPlanBytes road bytes s l → IsTrue (may_be_due s)
+unfolding may_be_due
+bytes_status road bytes PlanRefused l h = refl
+bytes_status road bytes Done l h = refl
+bytes_status road bytes PlanBroken l h = refl
+bytes_status road bytes _ l h = absurd h.judged
+
+road_status : (verb : Verb) (road : Road) (other : Option (List ℕ)) (end : End) → FollowsRoad verb road other end → IsTrue (may_be_due end.status)
+unfolding may_be_due
+road_status Judge road None end h = ap (λ e. may_be_due e.status) h
+road_status Judge road (Some bytes) end h = bytes_status road bytes end.status end.output h.0
+
+kept_status : (verb : Verb) (made : Result Road Fault) (other : Option (List ℕ)) (end : End) → Follows verb (keeps_rules made) other end → IsTrue (may_be_due end.status)
+unfolding may_be_due
+kept_status verb (Err fault) other end h = ap (λ e. may_be_due e.status) h
+kept_status verb (Ok road) other end h = road_status verb road other end h
+
+pub due_status : (verb : Verb) (road table other : Option (List ℕ)) (end : End) → Follows verb (road_due road table) other end → IsTrue (may_be_due end.status)
+unfolding road_due may_be_due
+due_status verb None table other end h = ap (λ e. may_be_due e.status) h
+due_status verb (Some bytes) table other end h = kept_status verb (road_of bytes) other end h
+
+bytes_missing : (road : Road) (bytes : List ℕ) (s : Status) (l : List ℕ) → OfPlanBytes road bytes s l → s ≡ Missing → ⊥
+bytes_missing road bytes PlanRefused l h e = omega (arith, ap exit_status e)
+bytes_missing road bytes Done l h e = omega (arith, ap exit_status e)
+bytes_missing road bytes PlanBroken l h e = omega (arith, ap exit_status e)
+bytes_missing road bytes _ l h e = h.judged
+
+road_missing : (verb : Verb) (road : Road) (other : Option (List ℕ)) (end : End) → FollowsRoad verb road other end → end.status ≡ Missing → end ≡ missing_end
+road_missing Judge road None end h e = h
+road_missing Judge road (Some bytes) end h e = absurd (bytes_missing road bytes end.status end.output h.0 e)
+
+kept_missing : (verb : Verb) (made : Result Road Fault) (other : Option (List ℕ)) (end : End) → Follows verb (keeps_rules made) other end → end.status ≡ Missing → end ≡ missing_end
+kept_missing verb (Err fault) other end h e = absurd (omega (arith, ap (λ x. exit_status x.status) h, ap exit_status e))
+kept_missing verb (Ok road) other end h e = road_missing verb road other end h e
+
+-- where the end of a missing file is due, nothing is printed and nothing is written
+pub due_missing : (verb : Verb) (road table other : Option (List ℕ)) (end : End) → Follows verb (road_due road table) other end → end.status ≡ Missing → end ≡ missing_end
+unfolding road_due
+due_missing verb None table other end h e = h
+due_missing verb (Some bytes) table other end h e = kept_missing verb (road_of bytes) other end h e

@@ -1,0 +1,48 @@
+-- What is due at the end of a run, in the order of the call: the road, then what follows an accepted road.
+--     road_due road table      the road that the given bytes stand for, or the end that is due where they stand for none
+--     FollowsRoad verb road other end      the end of the command on an accepted road
+--     IsDue told command end, Due told words end      the end is due where these files are told
+use Rattle.std.specs.Prelude.{◌≡◌, ℕ, Option, Some, None, Result, Ok, Err, List}
+use Rattle.outside.specs.Files.{Files}
+use Rattle.road_types.specs.declared.fault.Fault.{Fault}
+use Rattle.road_types.specs.declared.road.Road.{Road}
+use Rattle.road_file.specs.RoadOf.{road_of}
+use Rattle.roadopt_program.specs.declared.forms.Verb.{Verb}
+use Rattle.roadopt_program.specs.declared.forms.Verb.TheVariants.{Judge}
+use Rattle.roadopt_program.specs.declared.status.Status.TheVariants.{RoadRefused}
+use Rattle.roadopt_program.specs.Ends.{End, said, missing_end}
+use Rattle.roadopt_program.specs.Forms.{Command, command_of}
+use Rattle.roadopt_program.specs.Inputs.{Given, AreGiven}
+use Rattle.roadopt_program.specs.Judging.{Judges}
+use Rattle.roadopt_program.specs.Printed.{road_refused_line}
+
+-- a road, or the end that is due for its first fault
+abbrev pub keeps_rules : Result Road Fault → Result Road End
+keeps_rules (Ok road) = Ok road
+keeps_rules (Err fault) = Err (said RoadRefused (road_refused_line fault))
+
+-- the road of a file and of the section table that it names, of which none is read yet
+unfoldable pub road_due : Option (List ℕ) → Option (List ℕ) → Result Road End
+road_due None table = Err missing_end
+road_due (Some bytes) table = keeps_rules (road_of bytes)
+
+-- the end of each command on an accepted road, for what its further file gives
+abbrev pub FollowsRoad : Verb → Road → Option (List ℕ) → End → Type 0
+FollowsRoad Judge road plan end = Judges road plan end
+
+-- the end for what was made of the road's file
+abbrev pub Follows : Verb → Result Road End → Option (List ℕ) → End → Type 0
+Follows verb (Err early) other end = end ≡ early
+Follows verb (Ok road) other end = FollowsRoad verb road other end
+
+-- the end that is due for a command, where these files are told
+pub record IsDue (told : Option Files) (command : Command) (end : End) : Type 0 where
+  pub given : Given
+  pub are_given : AreGiven told command given
+  pub follows : Follows command.verb (road_due given.road given.table) given.other end
+
+-- the words are a form, and the end is due for them
+pub record Due (told : Option Files) (words : List (List ℕ)) (end : End) : Type 0 where
+  pub command : Command
+  pub form : command_of words ≡ Some command
+  pub is_due : IsDue told command end

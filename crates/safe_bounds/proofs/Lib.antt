@@ -1,0 +1,7 @@
+pub mod Duality
+pub mod ValueWidths
+pub mod DrawnLemmas
+pub mod StepWidths
+pub mod ColumnsLemmas
+pub mod NarrowingLemmas
+pub mod SparseLemmas

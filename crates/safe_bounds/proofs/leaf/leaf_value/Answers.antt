@@ -1,0 +1,21 @@
+use Rattle.std.proofs.Common.{rules, sym}
+use Rattle.std.specs.Prelude.{FitsSigned}
+use Rattle.std.specs.Int.{w128}
+use Rattle.std.proofs.lemmas.Int.{to_z-of_z}
+use Rattle.safe_bounds.proofs.Duality.{bounds_costs, dead_value}
+use Rattle.safe_bounds.proofs.leaf.leaf_value.Goals as goal
+
+pub returns-clause-bound : goal.returns-clause-bound
+returns-clause-bound c = λ signs.
+    let scale : FitsSigned w128 c.args.scale = c.ranges.scale in
+    let whole : FitsSigned w128 c.value_over.result = search rules in
+    let value = simp to_z-of_z at c.value_over.ensures.value in
+    simp to_z-of_z (rw value (bounds_costs c.args.milp.now c.args.scale c.args.mults.now signs))
+
+pub returns-clause-dead : goal.returns-clause-dead
+returns-clause-dead c = λ signs dead above.
+    let scale : FitsSigned w128 c.args.scale = c.ranges.scale in
+    let whole : FitsSigned w128 c.value_over.result = search rules in
+    let value = simp to_z-of_z at c.value_over.ensures.value in
+    let bound = rw (sym value) at (bounds_costs c.args.milp.now c.args.scale c.args.mults.now signs) in
+    dead_value c.args.milp.now c.args.scale c.value_over.result bound dead (simp to_z-of_z at above)

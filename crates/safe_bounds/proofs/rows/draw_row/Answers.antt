@@ -1,0 +1,36 @@
+use Rattle.std.proofs.Common.{arith, rules, ◌≡◌, ℕ, ◌+◌, ◌*◌, ◌^◌, ◌≤◌, List, length}
+use Rattle.std.specs.Prelude.{ℤ, FitsSigned}
+use Rattle.std.specs.Int.{w64, w128}
+use Rattle.std.proofs.lemmas.Int.{to_z-of_z}
+use Rattle.term_store.specs.declared.term.Term.{Term}
+use Rattle.algebra.specs.Numbered.{IsNumber}
+use Rattle.algebra.proofs.NumberedLemmas.{numbered_in}
+use Rattle.programs.specs.Programs.{Program, ProgramRow, empty_row, row_at, row_count, column_count}
+use Rattle.programs.specs.Limits.{Rises, IsWithinLimits}
+use Rattle.programs.proofs.RisesLemmas.{rises_length}
+use Rattle.safe_bounds.proofs.DrawnLemmas.{wider}
+use Rattle.safe_bounds.proofs.StepWidths.{product_of_word}
+use Rattle.safe_bounds.proofs.rows.draw_row.Goals as goal
+
+-- a row has at most 1,000 terms
+short_row : (program : Program) (i : ℕ) (ts : List (Term ℤ)) (row : ProgramRow) → IsWithinLimits program → IsNumber i (row_count program) → ts ≡ row.terms → row ≡ row_at program i → length ts ≤ 1000
+short_row program i ts row limits n p q =
+    let rises = numbered_in (λ r. Rises 0 (column_count program) r.terms) empty_row program.rows limits.rising i n in
+    let few = rises_length 0 (column_count program) (row_at program i).terms rises in
+    let columns = limits.columns in
+    rw (p, q) (omega arith)
+
+pub returns-clause-width : goal.returns-clause-width
+returns-clause-width c = λ k h.
+    let short = short_row c.args.milp.now c.args.i c.terms.result.now c.row-row.result c.row-row.ensures.limits c.requires.number c.terms.ensures c.row-row.ensures.row in
+    wider (k + length c.terms.result.now * 2 ^ 103) (k + 2 ^ 113) c.draw_terms.new.drawn (omega arith) (c.draw_terms.ensures.width k h)
+
+pub returns-clause-small : goal.returns-clause-small
+returns-clause-small c =
+    let word : FitsSigned w64 c.right.result = search rules in
+    let mult : FitsSigned w128 c.args.mult = c.ranges.mult in
+    let wide : FitsSigned w128 c.from.result = search rules in
+    let product : FitsSigned w128 c.times.result = search rules in
+    let value = simp to_z-of_z at c.from.ensures in
+    let times = rw value at (simp to_z-of_z at c.times.ensures) in
+    simp to_z-of_z (rw times (product_of_word c.args.mult c.right.result c.requires.mult word))

@@ -1,0 +1,12 @@
+//! Safe bounds of a linear program: what a scale and one multiplier for each row prove of the costs of all points.
+//! Multipliers come from anywhere; what they prove is formed by whole numbers alone.
+#![tactic(auto)]
+
+mod leaf;
+mod narrowing;
+mod rows;
+mod scratch;
+
+pub use leaf::leaf_value;
+pub use narrowing::narrow;
+pub use scratch::Scratch;
