@@ -2,7 +2,10 @@
 use Rattle.std.proofs.Common.{◌≡◌, ℕ, zero, suc, ◌+◌, ◌-◌, ◌*◌, ◌<◌, ◌≤◌, List, [], ◌∷◌, ◌++◌, length, map, get_or, arith, ap, sym, ◌∙◌, refl, subst, ◌⊎◌, inl, inr, ⊎_elim}
 use Rattle.std.proofs.lemmas.Bool.{cases_lt}
 use Rattle.std.proofs.lemmas.List.{length-append, get_or_append_left, get_or-append-add, get_or-append_right, map-append}
-use Rattle.algebra.specs.Lists.{list_to, flat_to, IsEntry}
+use Rattle.algebra.specs.Lists.{list_to, flat_to, total_of, IsEntry}
+use Rattle.algebra.specs.Totals.{total_to}
+use Rattle.algebra.specs.Numbered.{numbered}
+use Rattle.algebra.proofs.TotalsLemmas.{total_to_front}
 
 module _ {A : Type 0} where
   -- ---- lengths
@@ -146,6 +149,11 @@ module _ {A : Type 0} where
 
 -- ---- maps
 
+pub get_or-map_at : {A B : Type 0} (g : A → B) (xs : List A) (k : ℕ) (other : B) (x : A) → k < length xs → get_or (map g xs) k other ≡ g (get_or xs k x)
+get_or-map_at g [] k other x l = absurd (omega arith)
+get_or-map_at g (y ∷ xs) zero other x l = refl
+get_or-map_at g (y ∷ xs) (suc k) other x l = get_or-map_at g xs k other x (omega arith)
+
 module _ {A B : Type 0} where
   pub map-list_to : (g : A → B) (f : ℕ → A) (n : ℕ) → map g (list_to f n) ≡ list_to (λ k. g (f k)) n
   map-list_to g f zero = refl
@@ -156,3 +164,35 @@ module _ {A B : Type 0} where
   map-flat_to g f zero = refl
   map-flat_to g f (suc n) =
       map-append g (flat_to f n) (f (suc n)) ∙ ap (λ xs. xs ++ map g (f (suc n))) (map-flat_to g f n)
+
+  -- ---- entries of maps and totals
+
+  pub numbered-map_entry : (g : A → B) (other : B) (xs : List A) (j : ℕ) (x : A) → IsEntry xs j x → numbered other (map g xs) j ≡ g x
+  numbered-map_entry g other xs j x e =
+      let at : numbered other (map g xs) j ≡ numbered other (map g xs) (suc e.before) = ap (λ k. numbered other (map g xs) k) e.number in
+      at ∙ (get_or-map_at g xs e.before other x e.within ∙ ap g e.is_entry)
+
+module _ {A : Type 0} where
+  pub total_of-append : (g : A → ℕ) (xs ys : List A) → total_of g (xs ++ ys) ≡ total_of g xs + total_of g ys
+  total_of-append g [] ys = omega arith
+  total_of-append g (x ∷ xs) ys = omega (arith, total_of-append g xs ys)
+
+  pub total_of-list_to : (g : A → ℕ) (f : ℕ → A) (n : ℕ) → total_of g (list_to f n) ≡ total_to (λ k. g (f k)) n
+  total_of-list_to g f zero = refl
+  total_of-list_to g f (suc n) = omega (arith, total_of-append g (list_to f n) (f (suc n) ∷ []), total_of-list_to g f n)
+
+  pub total_of-flat_to : (g : A → ℕ) (f : ℕ → List A) (n : ℕ) → total_of g (flat_to f n) ≡ total_to (λ k. total_of g (f k)) n
+  total_of-flat_to g f zero = refl
+  total_of-flat_to g f (suc n) = omega (arith, total_of-append g (flat_to f n) (f (suc n)), total_of-flat_to g f n)
+
+  -- a total by numbers is one over the list's entries
+  pub total_to_of : (f : ℕ → ℕ) (g : A → ℕ) (xs : List A) → ((j : ℕ) (x : A) → IsEntry xs j x → f j ≡ g x) → total_to f (length xs) ≡ total_of g xs
+  total_to_of f g [] h = refl
+  total_to_of f g (x ∷ xs) h =
+      let first = h 1 x (entry_here x xs) in
+      let rest = total_to_of (λ j. f (suc j)) g xs (λ j y e. h (suc j) y (entry_behind x xs j y e)) in
+      omega (arith, total_to_front f (length xs))
+
+  pub total_of-ext : (f g : A → ℕ) (xs : List A) → ((x : A) → f x ≡ g x) → total_of f xs ≡ total_of g xs
+  total_of-ext f g [] h = refl
+  total_of-ext f g (x ∷ xs) h = omega (arith, h x, total_of-ext f g xs h)

@@ -1,6 +1,6 @@
 -- The two views of a road's columns are one: the arithmetic of `column_number` gives the place in the list of kinds, and no other.
 use Rattle.std.proofs.Common.{◌≡◌, ℕ, zero, suc, ◌+◌, ◌-◌, ◌*◌, ◌<◌, ◌≤◌, Bool, true, false, ◌&&◌, List, [], ◌∷◌, ◌++◌, length, arith, ap, sym, ◌∙◌, refl, subst, ◌⊎◌, inl, inr, ⊎_elim, Option, Some, None}
-use Rattle.std.specs.Prelude.{nat_le}
+use Rattle.std.specs.Prelude.{nat_le, MatchOption, ◌↔◌}
 use Rattle.std.proofs.lemmas.List.{length-append}
 use Rattle.algebra.specs.Lists.{list_to, flat_to, IsEntry}
 use Rattle.algebra.proofs.ListsLemmas.{length-list_to, length-flat_to, entry_left, entry_right, entry_here, entry_behind, entry_at, list_to_entry, flat_to_entry, entry_cases, entry_of_none, entry_of_one, entry_of_list_to, IsEntryOf, entry_of_flat_to}
@@ -112,7 +112,7 @@ module _ (road : Road) where
       let p = (t - 1) * stage_width road + place in
       let inside = flat_to_entry (stage_columns road) road.stages (stage_width road) t place kind (λ k low high. length-stage road k) n.from_one n.at_most e in
       let behind = entry_right segments (offsets ++ (stages ++ blocks)) (length offsets + p) kind
-        (entry_right offsets (stages ++ blocks) p kind (entry_left stages blocks p kind inside)) in
+      (entry_right offsets (stages ++ blocks) p kind (entry_left stages blocks p kind inside)) in
       entry_at (columns_of road) (length segments + (length offsets + p)) (stages_before road + p) kind (omega (arith, length-segments, length-offsets)) behind
 
   block_place : (k place : ℕ) (kind : Column) → IsNumber k (block_count road) → IsEntry (block_columns road k) place kind
@@ -122,7 +122,7 @@ module _ (road : Road) where
       let p = (k - 1) * (road.stages - 1) + place in
       let inside = flat_to_entry (block_columns road) (block_count road) (road.stages - 1) k place kind (λ j low high. length-blocks road j) n.from_one n.at_most e in
       let behind = entry_right segments (offsets ++ (stages ++ blocks)) (length offsets + (length stages + p)) kind
-        (entry_right offsets (stages ++ blocks) (length stages + p) kind (entry_right stages blocks p kind inside)) in
+      (entry_right offsets (stages ++ blocks) (length stages + p) kind (entry_right stages blocks p kind inside)) in
       let s : length segments ≡ segment_count road * 3 = length-segments in
       let o : length offsets ≡ section_count road = length-offsets in
       let t : length stages ≡ road.stages * stage_width road = length-stages in
@@ -156,7 +156,7 @@ module _ (road : Road) where
   fill_place t i n =
       let inside = list_to_entry (λ i. Fill i t) (section_count road) i n.from_one n.at_most in
       let behind = entry_right (cuts t) (fills t ++ (rights t ++ (lefts t ++ roads t))) i (Fill i t)
-        (entry_left (fills t) (rights t ++ (lefts t ++ roads t)) i (Fill i t) inside) in
+      (entry_left (fills t) (rights t ++ (lefts t ++ roads t)) i (Fill i t) inside) in
       entry_at (stage_columns road t) (length (cuts t) + i) (section_count road + i) (Fill i t)
       (omega (arith, length-list_to (λ i. Cut i t) (section_count road))) behind
 
@@ -164,8 +164,8 @@ module _ (road : Road) where
   right_place t h n =
       let inside = list_to_entry (λ h. Right h t) (hop_count road) h n.from_one n.at_most in
       let behind = entry_right (cuts t) (fills t ++ (rights t ++ (lefts t ++ roads t))) (length (fills t) + h) (Right h t)
-        (entry_right (fills t) (rights t ++ (lefts t ++ roads t)) h (Right h t)
-        (entry_left (rights t) (lefts t ++ roads t) h (Right h t) inside)) in
+      (entry_right (fills t) (rights t ++ (lefts t ++ roads t)) h (Right h t)
+      (entry_left (rights t) (lefts t ++ roads t) h (Right h t) inside)) in
       entry_at (stage_columns road t) (length (cuts t) + (length (fills t) + h)) (2 * section_count road + h) (Right h t)
       (omega (arith, length-list_to (λ i. Cut i t) (section_count road), length-list_to (λ i. Fill i t) (section_count road))) behind
 
@@ -173,9 +173,9 @@ module _ (road : Road) where
   left_place t h n =
       let inside = list_to_entry (λ h. Left h t) (hop_count road) h n.from_one n.at_most in
       let behind = entry_right (cuts t) (fills t ++ (rights t ++ (lefts t ++ roads t))) (length (fills t) + (length (rights t) + h)) (Left h t)
-        (entry_right (fills t) (rights t ++ (lefts t ++ roads t)) (length (rights t) + h) (Left h t)
-        (entry_right (rights t) (lefts t ++ roads t) h (Left h t)
-        (entry_left (lefts t) (roads t) h (Left h t) inside))) in
+      (entry_right (fills t) (rights t ++ (lefts t ++ roads t)) (length (rights t) + h) (Left h t)
+      (entry_right (rights t) (lefts t ++ roads t) h (Left h t)
+      (entry_left (lefts t) (roads t) h (Left h t) inside))) in
       entry_at (stage_columns road t) (length (cuts t) + (length (fills t) + (length (rights t) + h))) ((2 * section_count road + hop_count road) + h) (Left h t)
       (omega (arith, length-list_to (λ i. Cut i t) (section_count road), length-list_to (λ i. Fill i t) (section_count road), length-list_to (λ h. Right h t) (hop_count road))) behind
 
@@ -183,9 +183,9 @@ module _ (road : Road) where
   road_place t q n =
       let inside = list_to_entry (λ q. Access q t) (access_count road) q n.from_one n.at_most in
       let behind = entry_right (cuts t) (fills t ++ (rights t ++ (lefts t ++ roads t))) (length (fills t) + (length (rights t) + (length (lefts t) + q))) (Access q t)
-        (entry_right (fills t) (rights t ++ (lefts t ++ roads t)) (length (rights t) + (length (lefts t) + q)) (Access q t)
-        (entry_right (rights t) (lefts t ++ roads t) (length (lefts t) + q) (Access q t)
-        (entry_right (lefts t) (roads t) q (Access q t) inside))) in
+      (entry_right (fills t) (rights t ++ (lefts t ++ roads t)) (length (rights t) + (length (lefts t) + q)) (Access q t)
+      (entry_right (rights t) (lefts t ++ roads t) (length (lefts t) + q) (Access q t)
+      (entry_right (lefts t) (roads t) q (Access q t) inside))) in
       entry_at (stage_columns road t) (length (cuts t) + (length (fills t) + (length (rights t) + (length (lefts t) + q)))) ((2 * section_count road + 2 * hop_count road) + q) (Access q t)
       (omega (arith, length-list_to (λ i. Cut i t) (section_count road), length-list_to (λ i. Fill i t) (section_count road), length-list_to (λ h. Right h t) (hop_count road), length-list_to (λ h. Left h t) (hop_count road))) behind
 
@@ -216,7 +216,7 @@ module _ (road : Road) where
       let tests = both_true (is_number k (block_count road)) (nat_le 2 t && nat_le t road.stages) f.0 in
       let ends = both_true (nat_le 2 t) (nat_le t road.stages) tests.1 in
       let found = block_place k (t - 1) (Opened k t) (number_of_test k (block_count road) tests.0)
-        (block_entry k t (nat_le_of_test 2 t ends.0) (nat_le_of_test t road.stages ends.1)) in
+      (block_entry k t (nat_le_of_test 2 t ends.0) (nat_le_of_test t road.stages ends.1)) in
       entry_at (columns_of road) ((blocks_before road + (k - 1) * (road.stages - 1)) + (t - 1)) j (Opened k t) f.1 found
 
   offset_found : (i j : ℕ) → column_at (is_number i (section_count road)) (offsets_before road) i ≡ Some j → IsColumn road j (Offset i)
@@ -240,16 +240,19 @@ module _ (road : Road) where
 
   -- ---- and every column has that number
 
-  segment_number : (g place : ℕ) → IsNumber g (segment_count road) → segment_column road g place ≡ Some (3 * (g - 1) + place)
+  pub segment_number : (g place : ℕ) → IsNumber g (segment_count road) → segment_column road g place ≡ Some (3 * (g - 1) + place)
   segment_number g place n = column_at_true (is_number g (segment_count road)) (3 * (g - 1)) place (test_of_number g (segment_count road) n)
 
-  stage_number : (t before count place : ℕ) → IsNumber t road.stages → IsNumber place count
+  pub offset_number : (i : ℕ) → IsNumber i (section_count road) → column_at (is_number i (section_count road)) (offsets_before road) i ≡ Some (offsets_before road + i)
+  offset_number i n = column_at_true (is_number i (section_count road)) (offsets_before road) i (test_of_number i (section_count road) n)
+
+  pub stage_number : (t before count place : ℕ) → IsNumber t road.stages → IsNumber place count
       → stage_column road t before count place ≡ Some ((stages_before road + ((t - 1) * stage_width road + before)) + place)
   stage_number t before count place n m =
       column_at_true (is_number t road.stages && is_number place count) (stages_before road + ((t - 1) * stage_width road + before)) place
       (true_both (is_number t road.stages) (is_number place count) (test_of_number t road.stages n) (test_of_number place count m))
 
-  block_number : (k t : ℕ) → IsNumber k (block_count road) → 2 ≤ t → t ≤ road.stages
+  pub block_number : (k t : ℕ) → IsNumber k (block_count road) → 2 ≤ t → t ≤ road.stages
       → block_column road k t ≡ Some ((blocks_before road + (k - 1) * (road.stages - 1)) + (t - 1))
   block_number k t n low high =
       column_at_true (is_number k (block_count road) && (nat_le 2 t && nat_le t road.stages)) (blocks_before road + (k - 1) * (road.stages - 1)) (t - 1)
@@ -320,7 +323,7 @@ module _ (road : Road) where
       let o = entry_of_list_to (λ q. Access q t) (access_count road) r4.0 kind r4.1.1 in
       let m : IsNumber r4.0 (access_count road) = record { from_one = o.0; at_most = o.1.0 } in
       let same : (stages_before road + ((t - 1) * stage_width road + (2 * section_count road + 2 * hop_count road))) + r4.0 ≡ j =
-          omega (arith, r.1.0, r2.1.0, r3.1.0, r4.1.0, n1, n2, n3, n4) in
+      omega (arith, r.1.0, r2.1.0, r3.1.0, r4.1.0, n1, n2, n3, n4) in
       subst (λ k. IsNumbered j k) o.1.1 (stage_number t (2 * section_count road + 2 * hop_count road) (access_count road) r4.0 n m ∙ ap Some same))
       (entry_cases (lefts t) (roads t) r3.0 kind r3.1.1))
       (entry_cases (rights t) (lefts t ++ roads t) r2.0 kind r2.1.1))
@@ -351,8 +354,7 @@ module _ (road : Road) where
       let of = entry_of_list_to (λ i. Offset i) (section_count road) r.0 kind l in
       let same : offsets_before road + r.0 ≡ j = omega (arith, r.1.0) in
       subst (λ c. IsNumbered j c) of.1.1
-      (column_at_true (is_number r.0 (section_count road)) (offsets_before road) r.0
-      (test_of_number r.0 (section_count road) (record { from_one = of.0; at_most = of.1.0 })) ∙ ap Some same))
+      (offset_number r.0 (record { from_one = of.0; at_most = of.1.0 }) ∙ ap Some same))
       (λ (r2 : (p : ℕ) × ((r.0 ≡ length offsets + p) × IsEntry (stages ++ blocks) p kind)).
       ⊎_elim
       (λ (l : IsEntry stages r2.0 kind).
@@ -364,3 +366,13 @@ module _ (road : Road) where
       (entry_cases stages blocks r2.0 kind r2.1.1))
       (entry_cases offsets (stages ++ blocks) r.0 kind r.1.1))
       (entry_cases segments (offsets ++ (stages ++ blocks)) j kind e)
+
+  -- what the arithmetic answers tells which number has the kind
+  pub kinds_found : (kind : Column) (found : Option ℕ) → column_number road kind ≡ found
+      → MatchOption found ((j : ℕ) → ¬ IsColumn road j kind) (λ number. (j : ℕ) → IsColumn road j kind ↔ (j ≡ number))
+  kinds_found kind None e = λ j c. let h : Some j ≡ None = sym (column_number-from_IsColumn kind j c) ∙ e in cc
+  kinds_found kind (Some number) e =
+      λ j. (
+        λ c. let h : Some j ≡ Some number = sym (column_number-from_IsColumn kind j c) ∙ e in cc,
+        λ same. subst (λ n. IsColumn road n kind) (sym same) (IsColumn-from_number kind number e),
+      )

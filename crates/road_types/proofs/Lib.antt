@@ -5,3 +5,6 @@ pub mod ListRests
 pub mod SegmentLemmas
 pub mod HeightWidths
 pub mod ColumnPlaces
+pub mod FormCounts
+pub mod WeightReaches
+pub mod WeightLemmas

@@ -15,3 +15,4 @@ pub mod HaulForms
 pub mod RoadPrograms
 pub mod Faults
 pub mod Accepted
+pub mod inside
