@@ -8,3 +8,6 @@ pub mod PointShows
 pub mod FormsHold
 pub mod PointCost
 pub mod PlansArePoints
+pub mod OpenedStages
+pub mod PlanAt
+pub mod PointsArePlans

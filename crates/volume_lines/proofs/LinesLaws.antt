@@ -16,6 +16,7 @@ use Rattle.road_types.specs.Volumes.{thickness_of, net_volume}
 use Rattle.road_types.specs.Breakpoints.{IsBreakpoint, leading_thickness}
 use Rattle.road_types.specs.Ranges.{IsHeightRange}
 use Rattle.road_types.specs.Lines.{areas_between, slopes_between, least_area, greatest_area, volume_at, Lines, lines_through, lines_over}
+use Rattle.volume_lines.specs.InnerBreakpoints.{HasBreakpointInside}
 use Rattle.volume_lines.specs.SlabTables.{HasSlabTables}
 use Rattle.volume_lines.proofs.SlabRises.{AreThick, AreSlopesWithin, IsSlopeWithin, IsRise}
 use Rattle.volume_lines.proofs.NetRises.{net_rises, net_scales}
@@ -173,10 +174,7 @@ module _ (s : Section) (tables : HasSlabTables s) where
 
     -- ---- without a breakpoint strictly inside
 
-    abbrev pub HasBreakpointInside : Type 0
-    HasBreakpointInside = (x : ℤ) × (IsBreakpoint s x × ((range.0 <ℤ x) × (x <ℤ range.1)))
-
-    no_fill_end : (HasBreakpointInside → ⊥) → EndsOutside s.fill (pos 0) range.0 range.1
+    no_fill_end : (HasBreakpointInside s range → ⊥) → EndsOutside s.fill (pos 0) range.0 range.1
     no_fill_end none =
         ends_outside s.fill (pos 0) range.0 range.1
         (λ k.
@@ -190,7 +188,7 @@ module _ (s : Section) (tables : HasSlabTables s) where
         (λ (l : x ≤ℤ range.0). inl (omega (arith, ints)))
         (int_lt_or_le range.0 x))
 
-    no_cut_end : (HasBreakpointInside → ⊥) → EndsOutside s.cut (pos 0) (neg_ℤ range.1) (neg_ℤ range.0)
+    no_cut_end : (HasBreakpointInside s range → ⊥) → EndsOutside s.cut (pos 0) (neg_ℤ range.1) (neg_ℤ range.0)
     no_cut_end none =
         ends_outside s.cut (pos 0) (neg_ℤ range.1) (neg_ℤ range.0)
         (λ k.
@@ -204,7 +202,7 @@ module _ (s : Section) (tables : HasSlabTables s) where
         (λ (l : x ≤ℤ range.0). inr (omega (arith, ints)))
         (int_lt_or_le range.0 x))
 
-    only_slope : (HasBreakpointInside → ⊥) → IsOneSlope (slopes_between s range)
+    only_slope : (HasBreakpointInside s range → ⊥) → IsOneSlope (slopes_between s range)
     only_slope none =
         ⊎_elim
         (λ (l : range.0 <ℤ pos 0).
@@ -233,7 +231,7 @@ module _ (s : Section) (tables : HasSlabTables s) where
     one_greatest o = let w = o.within in ap greatest_area o.only ∙ omega (arith, ints, clamps, w.at_least, w.at_most)
 
     -- a volume that keeps to the lines is that of the offset
-    pub volume_is_exact : (HasBreakpointInside → ⊥) → (den u v : ℤ) → pos 0 <ℤ den → (range.0 *ℤ den) ≤ℤ u → u ≤ℤ (range.1 *ℤ den)
+    pub volume_is_exact : (HasBreakpointInside s range → ⊥) → (den u v : ℤ) → pos 0 <ℤ den → (range.0 *ℤ den) ≤ℤ u → u ≤ℤ (range.1 *ℤ den)
         → KeepsLines (lines_over s range) den u v → v ≡ net_volume s.cut s.fill u den
     volume_is_exact none den u v d x y k =
         let o = only_slope none in
@@ -247,7 +245,7 @@ module _ (s : Section) (tables : HasSlabTables s) where
         (subst (λ (l : Lines). KeepsLines l den u (net_volume s.cut s.fill u den)) one (volume_keeps_lines den u d x y))
 
     -- a breakpoint lies strictly inside, or none does
-    pub breakpoint_inside : HasBreakpointInside ⊎ (HasBreakpointInside → ⊥)
+    pub breakpoint_inside : HasBreakpointInside s range ⊎ (HasBreakpointInside s range → ⊥)
     breakpoint_inside =
         ⊎_elim
         (λ (f : HasEndInside s.fill (pos 0) range.0 range.1). inl (leading_thickness s.fill f.0, ((f.0, inl refl), (omega (arith, ints, f.1.0), omega (arith, ints, f.1.1)))))
@@ -259,7 +257,7 @@ module _ (s : Section) (tables : HasSlabTables s) where
         (end_inside s.cut (pos 0) (neg_ℤ range.1) (neg_ℤ range.0)))
         (end_inside s.fill (pos 0) range.0 range.1)
       where
-        nowhere : HasNoEndInside s.fill (pos 0) range.0 range.1 → HasNoEndInside s.cut (pos 0) (neg_ℤ range.1) (neg_ℤ range.0) → HasBreakpointInside → ⊥
+        nowhere : HasNoEndInside s.fill (pos 0) range.0 range.1 → HasNoEndInside s.cut (pos 0) (neg_ℤ range.1) (neg_ℤ range.0) → HasBreakpointInside s range → ⊥
         nowhere f c h =
             ⊎_elim
             (λ (e : h.0 ≡ leading_thickness s.fill h.1.0.0).
