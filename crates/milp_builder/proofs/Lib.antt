@@ -1,3 +1,4 @@
 pub mod LeadingSlabs
 pub mod RootBox
 pub mod Cover
+pub mod BoxLaws

@@ -9,7 +9,7 @@ use Rattle.road_types.specs.declared.road.Road.{Road}
 use Rattle.road_types.specs.declared.road.Section.{Section}
 use Rattle.road_types.specs.Numbered.{IsNumber}
 use Rattle.road_types.specs.Road.{section, section_count, block_count, no_section, no_block}
-use Rattle.road_types.specs.Accepted.{IsAccepted}
+use Rattle.road_types.specs.WellFormed.{IsWellFormed}
 use Rattle.road_types.specs.Ranges.{height_range, IsHeightRange, whole_range, whole_opening}
 use Rattle.plan_rules.specs.declared.plan.Plan.{Plan}
 use Rattle.plan_rules.specs.declared.verdict.Rule.TheVariants.{P5, P8}
@@ -38,13 +38,13 @@ whole_is_range s h = record {
   ordered = omega (arith, ints, thickness_pos s.cut h.cut, thickness_pos s.fill h.fill);
 }
 
-pub tables_of : (road : Road) → IsAccepted road → (i : ℕ) → IsNumber i (section_count road) → HasSlabTables (section road i)
-tables_of road a i n = record { cut = (a.well_formed.sections i n).cut; fill = (a.well_formed.sections i n).fill }
+pub tables_of : (road : Road) → IsWellFormed road → (i : ℕ) → IsNumber i (section_count road) → HasSlabTables (section road i)
+tables_of road a i n = record { cut = (a.sections i n).cut; fill = (a.sections i n).fill }
 
-all_openings_are_some : (road : Road) → IsAccepted road → IsOpeningRange road (2, road.stages + 1)
-all_openings_are_some road a = record { from_two = omega arith; some = omega (arith, a.well_formed.counted.stages_from); at_most = omega arith }
+all_openings_are_some : (road : Road) → IsWellFormed road → IsOpeningRange road (2, road.stages + 1)
+all_openings_are_some road a = record { from_two = omega arith; some = omega (arith, a.counted.stages_from); at_most = omega arith }
 
-pub root_box_fits : (road : Road) → IsAccepted road → IsBoxOf road (root_box road)
+pub root_box_fits : (road : Road) → IsWellFormed road → IsBoxOf road (root_box road)
 root_box_fits road a = record {
   opens_count = length-map road.blocks (λ block. whole_opening road);
   heights_count = length-map road.sections whole_range;
@@ -75,8 +75,8 @@ root_box_covers road plan h = record {
       (volume_of_admissible road plan h i n).range;
 }
 
-pub all_tables : (road : Road) → IsAccepted road → All HasSlabTables road.sections
+pub all_tables : (road : Road) → IsWellFormed road → All HasSlabTables road.sections
 all_tables road a = All-from_get_or HasSlabTables road.sections no_section (λ i l. tables_of road a (suc i) (record { from_one = omega arith; at_most = omega arith }))
 
-pub tables_at : (road : Road) → IsAccepted road → (i : ℕ) → IsNumber i (section_count road) → (s : Section) → s ≡ section road i → HasSlabTables s
+pub tables_at : (road : Road) → IsWellFormed road → (i : ℕ) → IsNumber i (section_count road) → (s : Section) → s ≡ section road i → HasSlabTables s
 tables_at road a i n s e = subst HasSlabTables (sym e) (tables_of road a i n)

@@ -2,7 +2,7 @@
 ghost use Rattle.std.specs.Prelude.{◌≡◌, ◌+◌, ◌≤◌, IfOk, replicate, map, length, ℤ, pos, None};
 ghost use Rattle.std.specs.List.{All};
 ghost use Rattle.road_types.specs.Faults.{road_fault};
-ghost use Rattle.road_types.specs.Accepted.{IsAccepted};
+ghost use Rattle.road_types.specs.WellFormed.{IsWellFormed};
 ghost use Rattle.plan_rules.specs.Rules.{IsAdmissible};
 ghost use Rattle.plan_rules.specs.declared.plan.Plan.{Plan};
 ghost use Rattle.road_types.specs.Ranges.{whole_range};
@@ -25,7 +25,7 @@ pub fn root_box(alloc: Global, road: &Road) -> Result<BoxRange, AllocError>
 }
 
 fn whole_box(alloc: Global, road: &Road) -> Result<BoxRange, AllocError>
-    requires { IsAccepted road.now }
+    requires { IsWellFormed road.now }
     ensures { IfOk result (λ range. range ≡ root_box road.now) }
 {
     let opens = all_openings(alloc, road.stages, road.blocks.as_slice())?;

@@ -2,7 +2,7 @@
 ghost use Rattle.std.specs.Prelude.{◌≡◌, ◌↔◌, ◌≤◌, ◌<◌, ◌&&◌, IfOk, IfSome, IsTrue, length, ◌<ℤ◌, None};
 ghost use Rattle.road_types.specs.Numbered.{IsNumber};
 ghost use Rattle.road_types.specs.Faults.{road_fault};
-ghost use Rattle.road_types.specs.Accepted.{IsAccepted};
+ghost use Rattle.road_types.specs.WellFormed.{IsWellFormed};
 ghost use Rattle.road_types.specs.Ranges.{height_range};
 ghost use Rattle.milp_builder.specs.Boxes.{IsBoxOf, opening_range};
 ghost use Rattle.milp_builder.specs.Parts.{AreParts, Covers, SplitsOpenings, SplitsOffsets, with_opening_range, with_height_range};
@@ -38,7 +38,7 @@ fn removal_parts(
     block: usize,
     stage: usize,
 ) -> Result<Option<(BoxRange, BoxRange)>, AllocError>
-    requires stages { road.now.stages ≤ 4 }
+    requires well_formed { IsWellFormed road.now }
     requires fits { IsBoxOf road.now range.now }
     ensures { IfOk result (λ found. AreParts road.now range.now (Split.Removal block stage) found) }
 {
@@ -59,7 +59,7 @@ fn height_parts(
     section: usize,
     at: i64,
 ) -> Result<Option<(BoxRange, BoxRange)>, AllocError>
-    requires accepted { IsAccepted road.now }
+    requires well_formed { IsWellFormed road.now }
     requires fits { IsBoxOf road.now range.now }
     ensures { IfOk result (λ found. AreParts road.now range.now (Split.Height section at) found) }
 {
@@ -92,7 +92,7 @@ fn parts_openings(range: (u8, u8), stage: usize) -> bool
 
 /// Whether the section has this number, and the offset is one of its breakpoints strictly inside the range.
 fn splits_offsets(road: &Road, range: &BoxRange, section: usize, at: i64) -> bool
-    requires accepted { IsAccepted road.now }
+    requires well_formed { IsWellFormed road.now }
     requires fits { IsBoxOf road.now range.now }
     ensures { IsTrue result ↔ SplitsOffsets road.now range.now section at }
 {

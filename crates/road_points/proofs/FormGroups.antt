@@ -6,7 +6,7 @@ use Rattle.std.proofs.lemmas.Bool.{cases_lt}
 use Rattle.std.proofs.lemmas.List.Elements.{All-nil, All-cons, All-head, All-tail, All-append, All-map}
 use Rattle.algebra.specs.Lists.{list_to, flat_to}
 use Rattle.programs.specs.Programs.{ProgramRow}
-use Rattle.programs.specs.Points.{HoldsAt}
+use Rattle.programs.specs.Points.{MeetsRow}
 use Rattle.road_types.specs.Numbered.{IsNumber}
 use Rattle.road_types.specs.Heights.{segment_length}
 use Rattle.road_types.specs.Road.{section_count, segment_count, fixed_count, pit_count, block_count, fixed_point}
@@ -216,18 +216,18 @@ module _ (road : Road) (lines : ℕ → Lines) (f : Column → ℤ) (den : ℤ) 
 
 module _ (road : Road) (lines : ℕ → Lines) (den : ℤ) (point : List ℤ) where
   pub rows_from_groups : SectionFormsHold road lines (shown road point) den → HaulFormsHold road (shown road point) den
-      → All (HoldsAt den point) (map (row_of road) (forms_of road lines))
+      → All (MeetsRow den point) (map (row_of road) (forms_of road lines))
   rows_from_groups s h =
-      All-map (HoldsAt den point) (row_of road) (forms_of road lines)
+      All-map (MeetsRow den point) (row_of road) (forms_of road lines)
       (λ k d l. row_from_form road den point (get_or (forms_of road lines) k d)
       (All-append (FormHolds (shown road point) den) (section_forms road lines) (haul_forms road)
       (section_forms_all road lines (shown road point) den s) (haul_forms_all road lines (shown road point) den h) k d l))
 
-  asked_forms : All (HoldsAt den point) (map (row_of road) (forms_of road lines)) → All (FormHolds (shown road point) den) (section_forms road lines ++ haul_forms road)
-  asked_forms a = λ k d l. form_from_row road den point (get_or (forms_of road lines) k d) (all_of_map (HoldsAt den point) (row_of road) (forms_of road lines) a k d l)
+  asked_forms : All (MeetsRow den point) (map (row_of road) (forms_of road lines)) → All (FormHolds (shown road point) den) (section_forms road lines ++ haul_forms road)
+  asked_forms a = λ k d l. form_from_row road den point (get_or (forms_of road lines) k d) (all_of_map (MeetsRow den point) (row_of road) (forms_of road lines) a k d l)
 
-  pub section_groups_from_rows : All (HoldsAt den point) (map (row_of road) (forms_of road lines)) → SectionFormsHold road lines (shown road point) den
+  pub section_groups_from_rows : All (MeetsRow den point) (map (row_of road) (forms_of road lines)) → SectionFormsHold road lines (shown road point) den
   section_groups_from_rows a = all_section_forms road lines (shown road point) den (all_left (FormHolds (shown road point) den) (section_forms road lines) (haul_forms road) (asked_forms a))
 
-  pub haul_groups_from_rows : All (HoldsAt den point) (map (row_of road) (forms_of road lines)) → HaulFormsHold road (shown road point) den
+  pub haul_groups_from_rows : All (MeetsRow den point) (map (row_of road) (forms_of road lines)) → HaulFormsHold road (shown road point) den
   haul_groups_from_rows a = all_haul_forms road lines (shown road point) den (all_right (FormHolds (shown road point) den) (section_forms road lines) (haul_forms road) (asked_forms a))

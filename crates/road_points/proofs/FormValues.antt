@@ -8,7 +8,7 @@ use Rattle.algebra.specs.Lists.{list_to, flat_to}
 use Rattle.algebra.specs.Sums.{sum_to}
 use Rattle.algebra.proofs.Products.{int_neg_mul, int_mul_zero}
 use Rattle.term_store.specs.declared.term.Term.{Term}
-use Rattle.programs.specs.Points.{value_at, numerator_at, Holds, HoldsAt}
+use Rattle.programs.specs.Points.{value_at, numerator_at, Satisfies, MeetsRow}
 use Rattle.road_types.specs.Columns.{column_number}
 use Rattle.road_types.specs.Forms.{Form, negated}
 use Rattle.road_types.specs.RoadPrograms.{term_in, terms_of, row_of}
@@ -61,10 +61,10 @@ form_value-flat_to f g (suc n) =
 
 -- the form's sum equals, or is at least, den times its right side
 abbrev pub FormHolds : (Column → ℤ) → ℤ → Form → Type 0
-FormHolds f den form = Holds form.side (form_value f form.entries) (den *ℤ form.right)
+FormHolds f den form = Satisfies form.side (form_value f form.entries) (den *ℤ form.right)
 
-pub form_from_row : (road : Road) (den : ℤ) (point : List ℤ) (form : Form) → HoldsAt den point (row_of road form) → FormHolds (shown road point) den form
-form_from_row road den point form h = subst (λ (v : ℤ). Holds form.side v (den *ℤ form.right)) (value_of_terms road point form.entries) h
+pub form_from_row : (road : Road) (den : ℤ) (point : List ℤ) (form : Form) → MeetsRow den point (row_of road form) → FormHolds (shown road point) den form
+form_from_row road den point form h = subst (λ (v : ℤ). Satisfies form.side v (den *ℤ form.right)) (value_of_terms road point form.entries) h
 
-pub row_from_form : (road : Road) (den : ℤ) (point : List ℤ) (form : Form) → FormHolds (shown road point) den form → HoldsAt den point (row_of road form)
-row_from_form road den point form h = subst (λ (v : ℤ). Holds form.side v (den *ℤ form.right)) (sym (value_of_terms road point form.entries)) h
+pub row_from_form : (road : Road) (den : ℤ) (point : List ℤ) (form : Form) → FormHolds (shown road point) den form → MeetsRow den point (row_of road form)
+row_from_form road den point form h = subst (λ (v : ℤ). Satisfies form.side v (den *ℤ form.right)) (sym (value_of_terms road point form.entries)) h

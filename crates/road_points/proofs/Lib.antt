@@ -11,3 +11,4 @@ pub mod PlansArePoints
 pub mod OpenedStages
 pub mod PlanAt
 pub mod PointsArePlans
+pub mod OnlyPlan

@@ -3,12 +3,8 @@ use Rattle.std.proofs.Common.{◌≡◌, ℕ, zero, suc, ◌+◌, ◌≤◌, ◌
 use Rattle.std.specs.Prelude.{ℤ, pos, ◌≤ℤ◌, ◌<ℤ◌}
 use Rattle.std.specs.Ordering.{int_eq}
 use Rattle.std.proofs.lemmas.Int.{ints}
+use Rattle.road_points.specs.ShownPlan.{zeros_to}
 use Rattle.std.proofs.lemmas.Bool.{cases_lt}
-
--- how many of h 1, .., h n are 0
-pub zeros_to : (ℕ → ℤ) → ℕ → ℕ
-zeros_to h zero = 0
-zeros_to h (suc n) = zeros_to h n + cond (int_eq (h (suc n)) (pos 0)) 1 0
 
 -- h t is 0 where t is among the first so many, and else the number
 pub record IsStep (h : ℕ → ℤ) (den : ℤ) (zeros n : ℕ) : Type 0 where

@@ -15,7 +15,7 @@ use Rattle.plan_rules.specs.declared.plan.Piece.{Piece}
 use Rattle.plan_rules.specs.declared.plan.Plan.{Plan}
 use Rattle.plan_rules.specs.Plans.{no_piece, piece_of, amount, opening, IsTableOf, IsPlanOf}
 use Rattle.road_points.specs.Shown.{shown}
-use Rattle.road_points.proofs.OpenedStages.{zeros_to}
+use Rattle.road_points.specs.ShownPlan.{table_to, zeros_to, piece_at, opening_at, plan_at}
 use Rattle.road_points.proofs.Shows.{ShowsPieces, ShowsAmounts}
 use Rattle.road_points.proofs.PointShows.{is_number_or_not, numbered_none, number_along, shown_none, shown_table}
 
@@ -35,29 +35,6 @@ numbered_list_to other f n (suc k) m =
     other_default d e (x ∷ xs) (suc i) l = other_default d e xs i (omega arith)
 
 -- ---- the plan
-
--- so many stages of so many numbers, each what `f` gives at its stage and number
-abbrev pub table_to : (ℕ → ℕ → ℤ) → ℕ → ℕ → List (List ℤ)
-table_to f stages entries = list_to (λ t. list_to (λ i. f i t) entries) stages
-
-abbrev pub piece_at : (Column → ℤ) → ℕ → Piece
-piece_at f g = record { a = f (A g); b = f (B g); c = f (C g) }
-
--- the first stage that isn't shown as closed
-abbrev pub opening_at : Road → (Column → ℤ) → ℕ → ℕ
-opening_at road f k = zeros_to (λ t. f (Opened k t)) road.stages + 1
-
-abbrev pub plan_at : Road → ℤ → (Column → ℤ) → Plan
-plan_at road den f = record {
-  den = den;
-  pieces = list_to (piece_at f) (segment_count road);
-  cut = table_to (λ i t. f (Cut i t)) road.stages (section_count road);
-  fill = table_to (λ i t. f (Fill i t)) road.stages (section_count road);
-  right = table_to (λ h t. f (Right h t)) road.stages (section_count road - 1);
-  left = table_to (λ h t. f (Left h t)) road.stages (section_count road - 1);
-  roads = table_to (λ q t. f (Access q t)) road.stages (access_count road);
-  opens = list_to (opening_at road f) (block_count road);
-}
 
 is_table : (f : ℕ → ℕ → ℤ) (stages entries : ℕ) → IsTableOf stages entries (table_to f stages entries)
 is_table f stages entries = record {

@@ -42,8 +42,9 @@ use Rattle.road_points.proofs.RoadKinds.{IsKindOf, all_kinds, kinds_all, number_
 use Rattle.road_points.proofs.PointShows.{number_along, shown_none, opened_before, opened_from}
 use Rattle.road_points.proofs.FormsHold.{OffsetsInside, tables_of}
 use Rattle.road_points.proofs.PlansArePoints.{OpeningsInside}
-use Rattle.road_points.proofs.OpenedStages.{zeros_to, IsStep, is_step}
-use Rattle.road_points.proofs.PlanAt.{plan_at, opening_at, plan_at_is_plan, plan_at_shows_pieces, plan_at_shows_amounts, opening_of_plan_at}
+use Rattle.road_points.specs.ShownPlan.{zeros_to, opening_at, plan_at}
+use Rattle.road_points.proofs.OpenedStages.{IsStep, is_step}
+use Rattle.road_points.proofs.PlanAt.{plan_at_is_plan, plan_at_shows_pieces, plan_at_shows_amounts, opening_of_plan_at}
 
 -- some stages from 2 to one more than the road has, for each block
 pub record AreOpeningRanges (road : Road) (openings : List (ℕ × ℕ)) : Type 0 where

@@ -10,7 +10,7 @@ use Rattle.milp_builder.specs.declared.boxes.BoxRange.{BoxRange}
 use Rattle.milp_builder.proofs.root.root_box.Goals as goal
 
 pub whole_box-requires : goal.whole_box-requires
-whole_box-requires c = IsAccepted-from_fault c.args.road.now c.requires
+whole_box-requires c = (IsAccepted-from_fault c.args.road.now c.requires).well_formed
 
 pub returns-clause-fits : goal.returns-clause-fits
 returns-clause-fits c =
@@ -19,7 +19,7 @@ returns-clause-fits c =
     c.whole_box.result
     (λ (r : BoxRange). r ≡ root_box road)
     (λ (r : BoxRange). IsBoxOf road r)
-    (λ r e. subst (λ (b : BoxRange). IsBoxOf road b) (sym e) (root_box_fits road (IsAccepted-from_fault road c.requires)))
+    (λ r e. subst (λ (b : BoxRange). IsBoxOf road b) (sym e) (root_box_fits road (IsAccepted-from_fault road c.requires).well_formed))
     c.whole_box.ensures
 
 pub returns-clause-covers : goal.returns-clause-covers

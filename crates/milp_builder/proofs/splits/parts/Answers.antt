@@ -11,11 +11,11 @@ use Rattle.milp_builder.specs.Parts.{AreParts, Covers}
 use Rattle.milp_builder.proofs.Cover.{found_parts_cover}
 use Rattle.milp_builder.proofs.splits.parts.Goals as goal
 
-pub removal_parts-requires-clause-stages : goal.removal_parts-requires-clause-stages
-removal_parts-requires-clause-stages c = (IsAccepted-from_fault c.args.road.now c.requires.accepted).well_formed.counted.stages_to
+pub removal_parts-requires-clause-well_formed : goal.removal_parts-requires-clause-well_formed
+removal_parts-requires-clause-well_formed c = (IsAccepted-from_fault c.args.road.now c.requires.accepted).well_formed
 
-pub height_parts-requires-clause-accepted : goal.height_parts-requires-clause-accepted
-height_parts-requires-clause-accepted c = IsAccepted-from_fault c.args.road.now c.requires.accepted
+pub height_parts-requires-clause-well_formed : goal.height_parts-requires-clause-well_formed
+height_parts-requires-clause-well_formed c = (IsAccepted-from_fault c.args.road.now c.requires.accepted).well_formed
 
 pub returns-in-Removal-clause-cover : goal.returns-in-Removal-clause-cover
 returns-in-Removal-clause-cover c =

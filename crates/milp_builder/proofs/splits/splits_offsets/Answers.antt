@@ -10,7 +10,7 @@ use Rattle.milp_builder.proofs.splits.splits_offsets.Goals as goal
 pub is_breakpoint-requires : goal.is_breakpoint-requires
 is_breakpoint-requires c =
     let n : IsNumber c.args.section (section_count c.args.road.now) = search rules in
-    tables_at c.args.road.now c.requires.accepted c.args.section n c.section.result.now c.section.ensures
+    tables_at c.args.road.now c.requires.well_formed c.args.section n c.section.result.now c.section.ensures
 
 pub returns-then-is_number : goal.returns-then-is_number
 returns-then-is_number c =
