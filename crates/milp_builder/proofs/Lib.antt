@@ -2,3 +2,4 @@ pub mod LeadingSlabs
 pub mod RootBox
 pub mod Cover
 pub mod BoxLaws
+pub mod PointLemmas

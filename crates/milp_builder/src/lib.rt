@@ -3,9 +3,11 @@
 
 mod boxes;
 mod breakpoints;
+mod points;
 mod root;
 mod splits;
 
 pub use boxes::{BoxRange, Split};
+pub use points::point_of;
 pub use root::root_box;
 pub use splits::parts;
