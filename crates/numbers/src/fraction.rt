@@ -1,8 +1,10 @@
 ghost use Rattle.std.specs.Prelude.{◌≡◌, ◌↔◌, ℕ, ◌≢◌, ◌<◌, ◌^◌, ℤ, pos, ◌≤ℤ◌, ◌<ℤ◌, IsSome, IsNone, IfSome, IfOk, string_bytes, unsigned_abs};
+ghost use Rattle.algebra.specs.Scale.{greatest_scale};
 ghost use Rattle.numbers.specs.Fractions.{IsLeastCommonDenominator};
 ghost use Rattle.numbers.specs.inside.LowestTerms.{AreLowest, HasSign};
 
 use crate::divisors::{lowest_terms, multiple_within};
+use algebra::GREATEST_SCALE;
 use std::alloc::{AllocError, Global};
 use std::marker::Model;
 
@@ -74,15 +76,12 @@ impl Frac {
     }
 }
 
-/// The greatest common denominator that is asked for: 2^40.
-pub const GREATEST_DENOMINATOR: i128 = 1_099_511_627_776;
-
-/// The least common multiple of the denominators, 1 of none; `None` exactly where it exceeds `GREATEST_DENOMINATOR`.
+/// The least common multiple of the denominators, 1 of none; `None` exactly where it exceeds 2^40, `GREATEST_SCALE`.
 pub fn common_den(parts: &[Frac]) -> Option<i128>
     ensures value { IfSome result (λ m. IsLeastCommonDenominator parts.now m) }
-    ensures within { IfSome result (λ m. m ≤ℤ GREATEST_DENOMINATOR) }
+    ensures within { IfSome result (λ m. m ≤ℤ pos greatest_scale) }
     ensures exceeds { IsNone result
-        → (m : ℤ) → IsLeastCommonDenominator parts.now m → GREATEST_DENOMINATOR <ℤ m }
+        → (m : ℤ) → IsLeastCommonDenominator parts.now m → pos greatest_scale <ℤ m }
 {
     let mut common = 1;
     for part in parts {
@@ -102,8 +101,8 @@ fn size_of_den(part: &Frac) -> u128
     part.den() as u128
 }
 
-/// `GREATEST_DENOMINATOR` without a sign.
-const MOST: u128 = GREATEST_DENOMINATOR as u128;
+/// `GREATEST_SCALE` without a sign.
+const MOST: u128 = GREATEST_SCALE as u128;
 
 /// The magnitudes of the lowest terms of `num/den`.
 fn lowest_magnitudes(num: i128, den: i128) -> (u128, u128)

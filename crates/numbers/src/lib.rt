@@ -9,7 +9,7 @@ mod w128;
 mod w64;
 mod whole;
 
-pub use fraction::{Frac, GREATEST_DENOMINATOR, common_den};
+pub use fraction::{Frac, common_den};
 pub use w64::W64;
 pub use w128::W128;
 pub use whole::Whole;

@@ -9,7 +9,7 @@ use Rattle.plan_rules.specs.declared.plan.Plan.{Plan}
 use Rattle.plan_rules.specs.Plans.{amount}
 use Rattle.plan_rules.specs.Fits.{IsModerate}
 use Rattle.plan_rules.specs.inside.FitsByParts.{HasModerateAmounts}
-use Rattle.plan_rules.specs.Rules.{fill_less_cut, access_share, road_total, pit_share}
+use Rattle.plan_rules.specs.Rules.{fill_less_cut, access_share, access_amount, pit_share}
 
 pub moderate_difference : (a b : ℤ) → IsModerate a → IsModerate b → unsigned_abs (a -ℤ b) ≤ 2 * 10 ^ 30
 moderate_difference a b p q = omega (arith, ints)
@@ -24,9 +24,9 @@ choice_width false x n h = omega arith
 pub access_share_width : (road : Road) (plan : Plan) → HasModerateAmounts plan → (kind : PitKind) (t i q : ℕ) → unsigned_abs (access_share road plan kind t i q) ≤ 10 ^ 30
 access_share_width road plan h kind t i q = choice_width _ (amount plan.roads t q) (10 ^ 30) (omega (arith, h.roads t q))
 
-pub road_total_width : (plan : Plan) → HasModerateAmounts plan → (q stages : ℕ) → stages ≤ 4 → unsigned_abs (road_total plan q stages) ≤ 4 * 10 ^ 30
-road_total_width plan h q stages few =
+pub access_amount_width : (plan : Plan) → HasModerateAmounts plan → (q stages : ℕ) → stages ≤ 4 → unsigned_abs (access_amount plan q stages) ≤ 4 * 10 ^ 30
+access_amount_width plan h q stages few =
     omega (arith, unsigned_abs_sum_to (λ t. amount plan.roads t q) (10 ^ 30) stages (λ t _ _. omega (arith, h.roads t q)))
 
 pub pit_share_width : (road : Road) (plan : Plan) → HasModerateAmounts plan → road.stages ≤ 4 → (p q : ℕ) → unsigned_abs (pit_share road plan p q) ≤ 4 * 10 ^ 30
-pit_share_width road plan h few p q = choice_width _ (road_total plan q road.stages) (4 * 10 ^ 30) (road_total_width plan h q road.stages few)
+pit_share_width road plan h few p q = choice_width _ (access_amount plan q road.stages) (4 * 10 ^ 30) (access_amount_width plan h q road.stages few)

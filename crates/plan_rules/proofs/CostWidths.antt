@@ -6,14 +6,14 @@ use Rattle.algebra.proofs.Magnitudes.{unsigned_abs_mul_le}
 use Rattle.algebra.proofs.SumsLemmas.{unsigned_abs_sum_to}
 use Rattle.algebra.specs.Scale.{IsScale}
 use Rattle.road_types.specs.Numbered.{IsNumber}
-use Rattle.road_types.specs.Road.{section, hop, pit, access, block, section_count, hop_count, access_count, block_count, access_unit_cost}
+use Rattle.road_types.specs.Road.{section, hop, pit, access, block, block_count}
 use Rattle.road_types.specs.WellFormed.{IsWellFormed, IsCost}
 use Rattle.road_types.specs.declared.road.Road.{Road}
 use Rattle.plan_rules.specs.declared.costs.Movement.{Movement}
 use Rattle.plan_rules.specs.declared.costs.Movement.TheVariants.{Cut, Fill, Right, Left, Access}
 use Rattle.plan_rules.specs.declared.plan.Plan.{Plan}
 use Rattle.plan_rules.specs.Plans.{amount}
-use Rattle.plan_rules.specs.Costs.{amounts_of, entry_count, unit_cost, entry_cost, stage_cost, movement_cost, removal_cost}
+use Rattle.plan_rules.specs.Costs.{amounts_of, entry_count, unit_cost, entry_cost, stage_cost, removal_cost}
 use Rattle.plan_rules.specs.inside.Widths.{IsPayable}
 
 pub cost_width : (x : ℤ) → IsCost x → unsigned_abs x ≤ 10 ^ 6

@@ -1,10 +1,9 @@
 -- How large heights and grades are where a plan's segments are within the road's limits.
 use Rattle.std.proofs.Common.{ℕ, ◌*◌, ◌^◌, ◌≤◌, arith}
-use Rattle.std.specs.Prelude.{ℤ, neg_ℤ, ◌+ℤ◌, ◌*ℤ◌, unsigned_abs}
+use Rattle.std.specs.Prelude.{ℤ, neg_ℤ, unsigned_abs}
 use Rattle.std.proofs.lemmas.Int.{ints}
-use Rattle.algebra.proofs.Magnitudes.{unsigned_abs_mul_le, unsigned_abs_add_le}
+use Rattle.algebra.proofs.Magnitudes.{unsigned_abs_mul_le}
 use Rattle.road_types.specs.Numbered.{IsNumber}
-use Rattle.road_types.specs.Heights.{height_along}
 use Rattle.road_types.specs.Road.{segment_count}
 use Rattle.road_types.specs.WellFormed.{IsWellFormed}
 use Rattle.road_types.specs.declared.road.Road.{Road}

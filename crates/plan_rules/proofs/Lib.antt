@@ -6,3 +6,4 @@ pub mod HeightWidths
 pub mod CapsLemmas
 pub mod ScanLemmas
 pub mod FitsLemmas
+mod Examples

@@ -72,7 +72,7 @@ cost_of road plan =
     (((cut_total road plan +ℤ fill_total road plan) +ℤ haul_total road plan) +ℤ access_total road plan)
     +ℤ removal_total road plan
 
--- a plan of the road that costs less than the fraction
+-- a plan of the road that costs less than num/den, where den is at least 1
 pub record Undercuts (road : Road) (plan : Plan) (num den : ℤ) : Type 0 where
   pub is_plan : IsPlanOf road plan
   pub less : (cost_of road plan *ℤ den) <ℤ (num *ℤ plan.den)

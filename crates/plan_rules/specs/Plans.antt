@@ -10,7 +10,7 @@ use Rattle.plan_rules.specs.declared.plan.Plan.{Plan}
 abbrev pub no_piece : Piece
 no_piece = record { a = pos 0; b = pos 0; c = pos 0 }
 
--- the height of segment g
+-- the three numbers of segment g
 abbrev pub piece_of : Plan → ℕ → Piece
 piece_of plan g = numbered no_piece plan.pieces g
 

@@ -1,6 +1,6 @@
 -- The rules of a plan, by rule, stage and place: limits, continuity, fixed points, volumes, caps, flows, blocks. A place is kept
 -- where the rule holds there; a plan of the road is admissible where every place of every rule is kept.
-use Rattle.std.specs.Prelude.{◌≡◌, ℕ, zero, suc, Bool, true, false, ◌+◌, ◌-◌, ◌<◌, ◌≤◌, ◌==◌, nat_le, ◌&&◌, if◌then◌else◌, ℤ, pos, neg_ℤ, ◌+ℤ◌, ◌-ℤ◌, ◌*ℤ◌, ◌≤ℤ◌}
+use Rattle.std.specs.Prelude.{◌≡◌, ℕ, zero, suc, ◌+◌, ◌-◌, ◌<◌, ◌≤◌, ◌==◌, nat_le, ◌&&◌, if◌then◌else◌, ℤ, pos, neg_ℤ, ◌+ℤ◌, ◌-ℤ◌, ◌*ℤ◌, ◌≤ℤ◌}
 use Rattle.algebra.specs.Sums.{sum_to}
 use Rattle.road_types.specs.Numbered.{IsNumber}
 use Rattle.road_types.specs.Heights.{height_along, grade_along, segment_at, steps_along, segment_length}
@@ -100,7 +100,7 @@ amount_count road = roads_before road + access_count road
 
 -- the amount that is counted at this place of stage t, and its cap
 pub record IsAmountCapped (road : Road) (plan : Plan) (t place : ℕ) : Type 0 where
-  pub cut : IsNumber place (fill_before road) → IsCapped (section road place).cut_max plan.den (amount plan.cut t place)
+  pub cut : IsNumber place (section_count road) → IsCapped (section road place).cut_max plan.den (amount plan.cut t place)
   pub fill : (i : ℕ) → place ≡ fill_before road + i → IsNumber i (section_count road)
       → IsCapped (section road i).fill_max plan.den (amount plan.fill t i)
   pub right : (h : ℕ) → place ≡ right_before road + h → IsNumber h (section_count road - 1)
@@ -110,12 +110,13 @@ pub record IsAmountCapped (road : Road) (plan : Plan) (t place : ℕ) : Type 0 w
   pub roads : (q : ℕ) → place ≡ roads_before road + q → IsNumber q (access_count road)
       → IsCapped (access road q).max plan.den (amount plan.roads t q)
 
--- what goes over access road q in all stages, where it belongs to pit p
-abbrev pub road_total : Plan → ℕ → ℕ → ℤ
-road_total plan q stages = sum_to (λ t. amount plan.roads t q) stages
+-- what goes over access road q in so many stages
+abbrev pub access_amount : Plan → ℕ → ℕ → ℤ
+access_amount plan q stages = sum_to (λ t. amount plan.roads t q) stages
 
+-- what goes over it in all stages, where it belongs to pit p
 abbrev pub pit_share : Road → Plan → ℕ → ℕ → ℤ
-pit_share road plan p q = if (access road q).pit == p then road_total plan q road.stages else pos 0
+pit_share road plan p q = if (access road q).pit == p then access_amount plan q road.stages else pos 0
 
 -- a pit's total over its access roads and all stages is at most its capacity
 abbrev pub IsPitCapped : Road → Plan → ℕ → Type 0

@@ -1,4 +1,5 @@
--- The road that a road file stands for, or the first of its faults.
+-- The road that a road file stands for, or the first of its faults: its text, document and contents, the road from these, and
+-- the answer.
 use Rattle.std.specs.Prelude.{ℕ, ◌-◌, nat_le, ℤ, pos, negsuc, if◌then◌else◌, List, [], ◌∷◌, length, map, replicate, Option, Some, None, is_none, Result, Ok, Err}
 use Rattle.std.specs.Str.{is_utf8}
 use Rattle.toml.specs.Data.{Members}

@@ -1,4 +1,4 @@
--- Steps that may end in a fault, one after another: the first fault is the answer.
+-- Steps that may end in a fault, one after another: the first fault is the answer. Also what a call may answer where this is due.
 use Rattle.std.specs.Prelude.{◌≡◌, Result, Ok, Err, Bool, if◌then◌else◌}
 use Rattle.road_types.specs.declared.fault.Fault.{Fault}
 use Rattle.road_file.specs.declared.error.RoadErr.{RoadErr}

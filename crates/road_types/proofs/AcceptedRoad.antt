@@ -19,12 +19,12 @@ use Rattle.road_types.specs.declared.road.Pit.{Pit}
 use Rattle.road_types.specs.declared.road.Block.{Block}
 use Rattle.road_types.specs.Numbered.{numbered, IsNumber}
 use Rattle.road_types.specs.Heights.{segment_start, segment_end}
-use Rattle.road_types.specs.Road.{section, hop, fixed_point, pit, access, block, no_section, no_hop, no_fixed, no_pit, no_access, no_block, section_count, hop_count, fixed_count, pit_count, access_count, block_count}
+use Rattle.road_types.specs.Road.{section, hop, fixed_point, pit, access, block, no_section, no_hop, no_fixed, no_pit, no_access, no_block, section_count, hop_count, fixed_count, pit_count, access_count}
 use Rattle.road_types.specs.RecordFaults.{differs_from, stands_elsewhere, is_between, is_name_byte, is_measure, is_station, is_height, is_cost, is_cap, is_grade, is_curve, is_step, is_stages, is_name, is_solid, is_table, has_tables, has_few_slabs, slab_in_range, section_in_range, prices_in_range, hop_in_range, fixed_in_range, pit_in_range, access_in_range, block_in_range, scales_in_range, limits_in_range, grades_in_range, lists_in_range, is_in_range, rises, comes_before, stations_rise, first_of, last_of, is_on_knots, section_on_knots, sections_on_knots, low_holds, has_pit, stands_at_section, block_at_section, point_on_knots, names_differ, blocks_differ, stretch_counts_hold, record_fault, knots_hold, lows_hold, pits_hold, places_hold, counts_hold, budgets_hold}
 use Rattle.road_types.specs.Faults.{fault_or, is_sized, is_light, size_fault, road_fault}
-use Rattle.road_types.specs.WellFormed.{IsBetween, IsStation, IsHeight, IsGrade, IsCurve, IsCost, IsCap, IsName, IsSolidSlab, IsSlabTable, IsOnKnots, IsWellFormedSection, IsWellFormedHop, IsWellFormedFixed, IsWellFormedPit, IsWellFormedAccess, IsWellFormedBlock, IsCounted, IsWellFormed}
+use Rattle.road_types.specs.WellFormed.{IsBetween, IsStation, IsHeight, IsGrade, IsCurve, IsCost, IsCap, IsName, IsSolidSlab, IsSlabTable, IsOnKnots, IsWellFormedSection, IsWellFormedHop, IsWellFormedFixed, IsWellFormedPit, IsWellFormedAccess, IsWellFormedBlock, IsWellFormed}
 use Rattle.road_types.specs.Accepted.{IsAccepted}
-use Rattle.road_types.proofs.Acceptance.{one_of_key, key_of_one, Three, three_true, true_three, Four, four_true, true_four, kept_first, none_first, both_true, true_both, test_numbered, numbered_test, at_neighbours, pairs_at, at_pairs, test_of_le, test_of_lt, test_of_nat_le, test_of_nat_eq, test_of_between, test_of_number, neighbours_at, le_of_test, lt_of_test, nat_le_of_test, nat_eq_of_test, between_of_test, number_of_test}
+use Rattle.road_types.proofs.Acceptance.{one_of_key, key_of_one, Three, three_true, true_three, Four, four_true, true_four, kept_first, none_first, both_true, true_both, test_numbered, numbered_test, at_neighbours, test_of_le, test_of_lt, test_of_nat_le, test_of_nat_eq, test_of_between, test_of_number, neighbours_at, le_of_test, lt_of_test, nat_le_of_test, nat_eq_of_test, between_of_test, number_of_test}
 
 -- every rule of the record is kept
 pub record KeepsRules (road : Road) : Type 0 where

@@ -42,7 +42,7 @@ length-blocks : (road : Road) (k : ℕ) → length (block_columns road k) ≡ ro
 length-blocks road k = length-list_to (λ before. Opened k (before + 1)) (road.stages - 1)
 
 -- a column that is there
-column_at_some : (b : Bool) (before place j : ℕ) → column_at b before place ≡ Some j → (b ≡ true) × (before + place ≡ j)
+pub column_at_some : (b : Bool) (before place j : ℕ) → column_at b before place ≡ Some j → (b ≡ true) × (before + place ≡ j)
 column_at_some true before place j h = (refl, cc)
 column_at_some false before place j h = cc
 

@@ -33,13 +33,13 @@ unfolding thickness_of
 thickness_none slabs i l = at_drop_all thickness_of slabs i l
 
 pub knots_more : (station : ℤ) (knots : List ℤ) (i : ℕ) (other : ℤ) → i < length knots
-    → knots_before station (drop i knots) ≡ cond (int_lt (get_or knots i other) station) (suc (knots_before station (drop (i + 1) knots))) 0
+    → knots_before (drop i knots) station ≡ cond (int_lt (get_or knots i other) station) (suc (knots_before (drop (i + 1) knots) station)) 0
 unfolding knots_before
-knots_more station knots i other l = at_drop_more (λ (xs : List ℤ). knots_before station xs) knots i other l
+knots_more station knots i other l = at_drop_more (λ (xs : List ℤ). knots_before xs station) knots i other l
 
-pub knots_none : (station : ℤ) (knots : List ℤ) (i : ℕ) → length knots ≤ i → knots_before station (drop i knots) ≡ 0
+pub knots_none : (station : ℤ) (knots : List ℤ) (i : ℕ) → length knots ≤ i → knots_before (drop i knots) station ≡ 0
 unfolding knots_before
-knots_none station knots i l = at_drop_all (λ (xs : List ℤ). knots_before station xs) knots i l
+knots_none station knots i l = at_drop_all (λ (xs : List ℤ). knots_before xs station) knots i l
 
 -- a knot at the station or after it isn't before it, and one before the station is
 

@@ -25,26 +25,26 @@ not_counted : (knot station : ℤ) (n : ℕ) → station ≤ℤ knot → cond (i
 not_counted knot station n h = grind (arith, ints)
 
 -- the knots that are counted lie before the station
-before_station : (station : ℤ) (ends : List ℤ) (j : ℕ) → j < knots_before station ends → get_or ends j (pos 0) <ℤ station
+before_station : (station : ℤ) (ends : List ℤ) (j : ℕ) → j < knots_before ends station → get_or ends j (pos 0) <ℤ station
 unfolding knots_before
 before_station station [] j l = absurd (omega arith)
 before_station station (x ∷ ends) zero l =
-    ⊎_elim (λ b. b) (λ s. absurd (omega (arith, not_counted x station (knots_before station ends) s))) (order_cases x station)
+    ⊎_elim (λ b. b) (λ s. absurd (omega (arith, not_counted x station (knots_before ends station) s))) (order_cases x station)
 before_station station (x ∷ ends) (suc j) l =
     ⊎_elim
-    (λ b. before_station station ends j (omega (arith, counted x station (knots_before station ends) b)))
-    (λ s. absurd (omega (arith, not_counted x station (knots_before station ends) s)))
+    (λ b. before_station station ends j (omega (arith, counted x station (knots_before ends station) b)))
+    (λ s. absurd (omega (arith, not_counted x station (knots_before ends station) s)))
     (order_cases x station)
 
 -- the first that isn't counted lies at the station or after it
-at_station : (station : ℤ) (ends : List ℤ) → knots_before station ends < length ends → station ≤ℤ get_or ends (knots_before station ends) (pos 0)
+at_station : (station : ℤ) (ends : List ℤ) → knots_before ends station < length ends → station ≤ℤ get_or ends (knots_before ends station) (pos 0)
 unfolding knots_before
 at_station station [] l = absurd (omega arith)
 at_station station (x ∷ ends) l =
     ⊎_elim
-    (λ b. let e = counted x station (knots_before station ends) b in
+    (λ b. let e = counted x station (knots_before ends station) b in
     subst (λ (k : ℕ). station ≤ℤ get_or (x ∷ ends) k (pos 0)) (sym e) (at_station station ends (omega (arith, e))))
-    (λ s. let e = not_counted x station (knots_before station ends) s in
+    (λ s. let e = not_counted x station (knots_before ends station) s in
     subst (λ (k : ℕ). station ≤ℤ get_or (x ∷ ends) k (pos 0)) (sym e) s)
     (order_cases x station)
 
@@ -53,22 +53,22 @@ one_more true n m h = h
 one_more false n m h = omega arith
 
 -- not all of some knots lie before a station that is at most the last of them
-last_covers : (station x : ℤ) (rest : List ℤ) → station ≤ℤ get_or (x ∷ rest) (length rest) (pos 0) → knots_before station (x ∷ rest) ≤ length rest
+last_covers : (station x : ℤ) (rest : List ℤ) → station ≤ℤ get_or (x ∷ rest) (length rest) (pos 0) → knots_before (x ∷ rest) station ≤ length rest
 unfolding knots_before
 last_covers station x [] h = omega (arith, not_counted x station 0 h)
-last_covers station x (y ∷ rest) h = one_more (int_lt x station) (knots_before station (y ∷ rest)) (suc (length rest)) (omega (arith, last_covers station y rest h))
+last_covers station x (y ∷ rest) h = one_more (int_lt x station) (knots_before (y ∷ rest) station) (suc (length rest)) (omega (arith, last_covers station y rest h))
 
-start_of : (start : ℤ) (ends : List ℤ) (station : ℤ) → start ≤ℤ station → (k : ℕ) → k ≡ knots_before station ends
+start_of : (start : ℤ) (ends : List ℤ) (station : ℤ) → start ≤ℤ station → (k : ℕ) → k ≡ knots_before ends station
     → (segment_start (start ∷ ends) (suc k) <ℤ station) ⊎ ((suc k ≡ 1) × (station ≡ start))
 start_of start ends station from zero e = ⊎_elim (λ b. inl b) (λ s. inr (refl, omega (arith, ints, s, from))) (order_cases start station)
 start_of start ends station from (suc j) e = inl (before_station station ends j (omega arith))
 
 -- a station between the first and the last of some knots lies in its segment
-in_segment_of : (start : ℤ) (ends : List ℤ) (station : ℤ) → start ≤ℤ station → knots_before station ends < length ends → IsInSegment (start ∷ ends) (suc (knots_before station ends)) station
+in_segment_of : (start : ℤ) (ends : List ℤ) (station : ℤ) → start ≤ℤ station → knots_before ends station < length ends → IsInSegment (start ∷ ends) (suc (knots_before ends station)) station
 in_segment_of start ends station from few =
     record {
       number = record { from_one = omega arith; at_most = omega arith };
-      after_start = start_of start ends station from (knots_before station ends) refl;
+      after_start = start_of start ends station from (knots_before ends station) refl;
       to_end = at_station station ends few;
     }
 
@@ -83,7 +83,7 @@ in_segment (start ∷ x ∷ rest) station some from to =
     in_segment_of start (x ∷ rest) station from (omega arith)
 
 -- and as code counts the knots
-pub segment_number : (knots : List ℤ) (station : ℤ) → 2 ≤ length knots → segment_at knots station ≡ 1 + knots_before station (drop 1 knots)
+pub segment_number : (knots : List ℤ) (station : ℤ) → 2 ≤ length knots → segment_at knots station ≡ 1 + knots_before (drop 1 knots) station
 segment_number [] station some = absurd (omega arith)
 segment_number (start ∷ ends) station some = omega arith
 

@@ -12,14 +12,14 @@ abbrev pub grade_along : ℤ → ℤ → ℤ → ℤ
 grade_along b c s = b +ℤ (pos 2 *ℤ c) *ℤ s
 
 -- how many of the knots, from the first on, lie before a station
-unfoldable pub knots_before : ℤ → List ℤ → ℕ
-knots_before station [] = 0
-knots_before station (knot ∷ knots) = if int_lt knot station then suc (knots_before station knots) else 0
+unfoldable pub knots_before : List ℤ → ℤ → ℕ
+knots_before [] station = 0
+knots_before (knot ∷ knots) station = if int_lt knot station then suc (knots_before knots station) else 0
 
 -- the number of the first segment that ends at the station or after it; segment g ends at the knot after its start
 abbrev pub segment_at : List ℤ → ℤ → ℕ
 segment_at [] station = 0
-segment_at (start ∷ ends) station = suc (knots_before station ends)
+segment_at (start ∷ ends) station = suc (knots_before ends station)
 
 -- the station at which segment g starts
 abbrev pub segment_start : List ℤ → ℕ → ℤ

@@ -1,4 +1,5 @@
--- Volumes by slab tables: m² times mm are litres. Depths and volumes are over the plan's denominator.
+-- Volumes by slab tables: the volume down to a depth, the thickness of all slabs, and the net volume of an offset. m² times mm
+-- are litres; depths and volumes are over the plan's denominator.
 use Rattle.std.specs.Prelude.{List, [], ◌∷◌, ℤ, pos, neg_ℤ, ◌+ℤ◌, ◌-ℤ◌, ◌*ℤ◌}
 use Rattle.std.specs.Int.{int_min, int_max}
 use Rattle.road_types.specs.declared.road.Slab.{Slab}

@@ -50,7 +50,7 @@ impl Road {
 
 /// How many of the knots, from the first on, lie before the station.
 fn knots_before(knots: &[i64], station: i64) -> usize
-    ensures { result ≡ knots_before station knots.now }
+    ensures { result ≡ knots_before knots.now station }
 {
     for (before, knot) in knots.iter().enumerate() {
         if *knot >= station {

@@ -4,7 +4,7 @@
 --     files_with told file      the files once the due one is written
 --     Output, Says      what the sink was given
 --     after_fault status      how a run ends where its output couldn't be written
-use Rattle.std.specs.Prelude.{◌≡◌, ℕ, ◌⊎◌, Option, Some, None, List, []}
+use Rattle.std.specs.Prelude.{ℕ, ◌⊎◌, Option, Some, None, List, []}
 use Rattle.outside.specs.Faults.{HasRisen}
 use Rattle.outside.specs.Files.{Files, with_file}
 use Rattle.outside.specs.Written.{GrewBy, GrewByPrefix}

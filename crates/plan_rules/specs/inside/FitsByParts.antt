@@ -1,5 +1,5 @@
 -- What a plan of a road whose numbers are moderate has, in two parts: its pieces and openings, and its tables.
-use Rattle.std.specs.Prelude.{◌≡◌, ℕ, ◌-◌, ◌^◌, List, length, ℤ, pos, ◌≤ℤ◌}
+use Rattle.std.specs.Prelude.{◌≡◌, ℕ, ◌-◌, List, length, ℤ, pos}
 use Rattle.algebra.specs.Scale.{IsScale}
 use Rattle.road_types.specs.Numbered.{numbered}
 use Rattle.road_types.specs.declared.road.Road.{Road}

@@ -1,6 +1,6 @@
 -- How large the numbers of a plan may be where sums and products of them are made: pieces within the limits of a road, amounts
 -- within their caps.
-use Rattle.std.specs.Prelude.{ℕ, ◌^◌, ◌*◌, ◌≤◌, ◌<◌, ℤ, unsigned_abs}
+use Rattle.std.specs.Prelude.{ℕ, ◌^◌, ◌*◌, ◌≤◌, ℤ, unsigned_abs}
 use Rattle.road_types.specs.Numbered.{IsNumber}
 use Rattle.road_types.specs.declared.road.Road.{Road}
 use Rattle.plan_rules.specs.declared.plan.Piece.{Piece}

@@ -6,7 +6,7 @@ ghost use Rattle.road_types.specs.Road.{section_count, hop_count, access_count, 
 ghost use Rattle.road_types.specs.WellFormed.{IsWellFormed};
 ghost use Rattle.plan_rules.specs.Fits.{Fits};
 ghost use Rattle.plan_rules.specs.Plans.{amount};
-ghost use Rattle.plan_rules.specs.Rules.{KeepsCaps, IsPitCapped, IsAmountCapped, IsCapped, amount_count, pit_share, road_total};
+ghost use Rattle.plan_rules.specs.Rules.{KeepsCaps, IsPitCapped, IsAmountCapped, IsCapped, amount_count, pit_share, access_amount};
 
 use crate::entries::amount_at;
 use crate::plan::Plan;
@@ -63,17 +63,17 @@ fn pit_share(road: &Road, plan: &Plan, number: usize, access: usize) -> i128
     ensures { result ≡ pit_share road.now plan.now number access }
 {
     if road.access(access).pit == number {
-        road_total(road, plan, access)
+        access_amount(road, plan, access)
     } else {
         0
     }
 }
 
 /// What goes over an access road in all stages.
-fn road_total(road: &Road, plan: &Plan, access: usize) -> i128
+fn access_amount(road: &Road, plan: &Plan, access: usize) -> i128
     requires well_formed { IsWellFormed road.now }
     requires fits { Fits road.now plan.now }
-    ensures { result ≡ road_total plan.now access road.now.stages }
+    ensures { result ≡ access_amount plan.now access road.now.stages }
 {
     let mut total = 0;
     for before in 0..road.stages {

@@ -20,10 +20,9 @@ pub fn is_balanced(road: &Road, plan: &Plan, stage: usize, number: usize) -> boo
     requires number { IsNumber number (section_count road.now) }
     ensures { IsTrue result ↔ IsBalanced road.now plan.now stage number }
 {
-    same(
-        earth_in(road, plan, stage, number),
-        earth_out(road, plan, stage, number),
-    )
+    let coming = earth_in(road, plan, stage, number);
+    let leaving = earth_out(road, plan, stage, number);
+    same(coming, leaving)
 }
 
 /// What is cut in a section, hauled to it and borrowed for it in a stage.

@@ -1,5 +1,4 @@
 use Rattle.std.proofs.Common.{rules, FitsSigned, arith}
-use Rattle.std.specs.Prelude.{◌*ℤ◌}
 use Rattle.std.specs.Int.{w64, w128}
 use Rattle.std.proofs.lemmas.Int.{to_z-of_z}
 use Rattle.algebra.proofs.Magnitudes.{fits_w128}

@@ -12,7 +12,7 @@ returns-then-knot-station c =
     let knot : FitsSigned w64 (get_or c.args.knots.now c.loop-before.before (pos 0)) = search rules in
     let more = knots_more c.args.station c.args.knots.now c.loop-before.before (pos 0) c.loop-before-test.true in
     let so_far = simp to_z-of_z at c.loop-before.invariant in
-    let stop = knots_stop c.args.station (get_or c.args.knots.now c.loop-before.before (pos 0)) (knots_before c.args.station (drop (c.loop-before.before + 1) c.args.knots.now)) (simp to_z-of_z at c.if-knot-station.true) in
+    let stop = knots_stop c.args.station (get_or c.args.knots.now c.loop-before.before (pos 0)) (knots_before (drop (c.loop-before.before + 1) c.args.knots.now) c.args.station) (simp to_z-of_z at c.if-knot-station.true) in
     omega (arith, so_far, more, stop)
 
 pub loop-before-preserved : goal.loop-before-preserved
@@ -21,7 +21,7 @@ loop-before-preserved c =
     let knot : FitsSigned w64 (get_or c.args.knots.now c.loop-before.before (pos 0)) = search rules in
     let more = knots_more c.args.station c.args.knots.now c.loop-before.before (pos 0) c.loop-before-test.true in
     let so_far = simp to_z-of_z at c.loop-before.invariant in
-    let go = knots_go c.args.station (get_or c.args.knots.now c.loop-before.before (pos 0)) (knots_before c.args.station (drop (c.loop-before.before + 1) c.args.knots.now)) (simp to_z-of_z at c.if-knot-station.false) in
+    let go = knots_go c.args.station (get_or c.args.knots.now c.loop-before.before (pos 0)) (knots_before (drop (c.loop-before.before + 1) c.args.knots.now) c.args.station) (simp to_z-of_z at c.if-knot-station.false) in
     simp to_z-of_z (omega (arith, so_far, more, go))
 
 pub returns : goal.returns

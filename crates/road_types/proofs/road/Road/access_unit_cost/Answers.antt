@@ -1,5 +1,5 @@
 use Rattle.std.proofs.Common.{◌≡◌, ap, ◌∙◌, FitsSigned, rules, arith}
-use Rattle.std.specs.Prelude.{ℕ, ◌+ℤ◌}
+use Rattle.std.specs.Prelude.{◌+ℤ◌}
 use Rattle.std.specs.Int.{w64}
 use Rattle.std.proofs.lemmas.Int.{ints, to_z-of_z}
 use Rattle.road_types.specs.declared.road.Access.{Access}
