@@ -1,13 +1,11 @@
 -- Plans are points of the programs of boxes, and points are plans.
-use Rattle.std.proofs.Common.{◌≡◌, ℕ, List, sym, ◌∙◌, refl, ◌⊎◌}
+use Rattle.std.proofs.Common.{List, sym, ◌∙◌, refl}
 use Rattle.std.specs.Prelude.{ℤ, pos, ◌≤ℤ◌}
 use Rattle.programs.specs.Points.{IsPoint}
-use Rattle.road_types.specs.Ranges.{height_range, AreHeightRanges}
+use Rattle.road_types.specs.Ranges.{AreHeightRanges}
 use Rattle.road_types.specs.Accepted.{IsAccepted}
 use Rattle.road_types.specs.declared.road.Road.{Road}
 use Rattle.plan_rules.specs.declared.plan.Plan.{Plan}
-use Rattle.plan_rules.specs.Rules.{IsAdmissible}
-use Rattle.road_points.specs.PlanPoints.{point_of}
 use Rattle.road_points.specs.Shown.{shown, HasWholeRemovals, HasExactVolumes}
 use Rattle.road_points.specs.ShownPlan.{plan_at}
 use Rattle.road_points.proofs.FormsHold.{OffsetsInside}

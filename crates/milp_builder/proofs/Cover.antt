@@ -1,7 +1,6 @@
 -- The parts of a box fit the road, and each plan inside the box is inside one of them or both.
-use Rattle.std.proofs.Common.{◌≡◌, ℕ, zero, suc, ◌+◌, ◌-◌, ◌≤◌, ◌<◌, ◌⊎◌, List, length, get_or, set, arith, sym, subst, ap, inl, inr, ⊎_elim, Option, Some, None, ◌∙◌, refl, Bool, true, false}
+use Rattle.std.proofs.Common.{◌≡◌, ℕ, zero, suc, ◌+◌, ◌-◌, ◌≤◌, ◌<◌, List, length, get_or, set, arith, sym, subst, inl, inr, ⊎_elim, Option, Some, None, ◌∙◌, refl, Bool, true, false}
 use Rattle.std.specs.Prelude.{ℤ, pos, ◌*ℤ◌, ◌<ℤ◌, ◌≤ℤ◌, IfSome, IsTrue, ◌↔◌, ◌&&◌}
-use Rattle.std.proofs.lemmas.Int.{ints}
 use Rattle.std.proofs.lemmas.Bool.{cases_eq, cases_lt}
 use Rattle.std.proofs.lemmas.List.{length-set, get_or-set_same, get_or-set_other}
 use Rattle.algebra.proofs.Order.{int_le_total}

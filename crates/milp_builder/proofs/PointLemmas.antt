@@ -1,5 +1,5 @@
 -- Steps of loops that append the values of kinds of column.
-use Rattle.std.proofs.Common.{◌≡◌, ℕ, zero, suc, ◌+◌, ◌-◌, ◌≤◌, ◌<◌, List, [], ◌∷◌, ◌++◌, map, length, get_or, append_assoc, arith, ap, sym, ◌∙◌, refl, subst}
+use Rattle.std.proofs.Common.{◌≡◌, ℕ, zero, suc, ◌+◌, ◌-◌, ◌≤◌, List, [], ◌∷◌, ◌++◌, map, length, append_assoc, arith, ap, sym, ◌∙◌}
 use Rattle.std.specs.Prelude.{ℤ, pos}
 use Rattle.std.proofs.lemmas.List.{map-append, same_lists}
 use Rattle.algebra.specs.Lists.{list_to, flat_to}
@@ -9,9 +9,9 @@ use Rattle.road_types.specs.Road.{section_count, segment_count, hop_count, acces
 use Rattle.road_types.specs.Columns.{columns_of, segment_columns, stage_columns, block_columns}
 use Rattle.road_types.specs.declared.road.Road.{Road}
 use Rattle.road_types.specs.declared.column.Column.{Column}
-use Rattle.road_types.specs.declared.column.Column.TheVariants.{Offset, Cut, Fill, Right, Left, Access, Opened}
+use Rattle.road_types.specs.declared.column.Column.TheVariants.{Offset, Cut, Fill, Right, Left, Access}
 use Rattle.plan_rules.specs.declared.plan.Plan.{Plan}
-use Rattle.plan_rules.specs.Plans.{amount, opening, IsTableOf, IsPlanOf}
+use Rattle.plan_rules.specs.Plans.{amount, IsTableOf, IsPlanOf}
 use Rattle.road_points.specs.PlanPoints.{value_in}
 use Rattle.road_points.proofs.PlanAt.{numbered_list_to}
 use Rattle.road_points.proofs.PointsArePlans.{other_default}

@@ -1,11 +1,10 @@
 -- All rows of a road's program hold where those of each group hold, one by one.
-use Rattle.std.proofs.Common.{◌≡◌, ℕ, zero, suc, ◌+◌, ◌-◌, ◌≤◌, ◌<◌, List, [], ◌∷◌, ◌++◌, map, length, get_or, arith, ap, sym, refl, subst, ⊎_elim}
+use Rattle.std.proofs.Common.{◌≡◌, ℕ, zero, suc, ◌+◌, ◌-◌, ◌≤◌, ◌<◌, List, [], ◌∷◌, ◌++◌, map, get_or, arith, subst, ⊎_elim}
 use Rattle.std.specs.Prelude.{ℤ, neg_ℤ}
 use Rattle.std.specs.List.{All}
 use Rattle.std.proofs.lemmas.Bool.{cases_lt}
 use Rattle.std.proofs.lemmas.List.Elements.{All-nil, All-cons, All-head, All-tail, All-append, All-map}
 use Rattle.algebra.specs.Lists.{list_to, flat_to}
-use Rattle.programs.specs.Programs.{ProgramRow}
 use Rattle.programs.specs.Points.{MeetsRow}
 use Rattle.road_types.specs.Numbered.{IsNumber}
 use Rattle.road_types.specs.Heights.{segment_length}
@@ -161,8 +160,10 @@ module _ (road : Road) (lines : ℕ → Lines) (f : Column → ℤ) (den : ℤ) 
     where
       rest3 : ℕ → List Form
       rest3 i = above_form road i (lines i).greatest (lines i).above_high ∷ []
+
       rest2 : ℕ → List Form
       rest2 i = below_form road i (lines i).least (lines i).below_low ∷ rest3 i
+
       rest1 : ℕ → List Form
       rest1 i = below_form road i (lines i).greatest (lines i).below_high ∷ rest2 i
 
@@ -195,8 +196,8 @@ module _ (road : Road) (lines : ℕ → Lines) (f : Column → ℤ) (den : ℤ) 
       let stops = all_left Asked (stop_forms road) (order_forms road) a3 in
       let orders = all_right Asked (stop_forms road) (order_forms road) a3 in
       let stop = λ (k : ℕ) (n : IsNumber k (block_count road)).
-          flat_to_all Asked (λ before. cut_stop_form road k (before + 1) ∷ fill_stop_form road k (before + 1) ∷ []) (road.stages - 1)
-          (flat_to_all Asked (λ k. flat_to (λ before. cut_stop_form road k (before + 1) ∷ fill_stop_form road k (before + 1) ∷ []) (road.stages - 1)) (block_count road) stops k n) in
+      flat_to_all Asked (λ before. cut_stop_form road k (before + 1) ∷ fill_stop_form road k (before + 1) ∷ []) (road.stages - 1)
+      (flat_to_all Asked (λ k. flat_to (λ before. cut_stop_form road k (before + 1) ∷ fill_stop_form road k (before + 1) ∷ []) (road.stages - 1)) (block_count road) stops k n) in
       record {
         balance = λ t i n m.
             list_to_all Asked (balance_form road t) (section_count road)

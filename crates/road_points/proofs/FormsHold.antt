@@ -1,18 +1,15 @@
 -- Where values of kinds show a plan that keeps the rules, inside ranges of offsets, every form holds.
-use Rattle.std.proofs.Common.{◌≡◌, ℕ, zero, suc, ◌+◌, ◌-◌, ◌≤◌, ◌<◌, List, arith, ap, sym, ◌∙◌, refl, subst, ⊎_elim, ◌⊎◌, inl, inr}
-use Rattle.std.specs.Prelude.{ℤ, pos, neg_ℤ, ◌+ℤ◌, ◌-ℤ◌, ◌*ℤ◌, ◌≤ℤ◌}
+use Rattle.std.proofs.Common.{◌≡◌, ℕ, ◌+◌, ◌-◌, ◌≤◌, ◌<◌, List, arith, ap, sym, ◌∙◌, subst, ⊎_elim, ◌⊎◌, inl, inr}
+use Rattle.std.specs.Prelude.{ℤ, pos, ◌*ℤ◌, ◌≤ℤ◌}
 use Rattle.std.proofs.lemmas.Int.{ints}
 use Rattle.std.proofs.lemmas.Bool.{cases_lt}
 use Rattle.algebra.specs.Sums.{sum_to}
 use Rattle.algebra.proofs.Products.{int_mul_comm, int_mul_neg, int_mul_zero, int_add_mul}
-use Rattle.algebra.proofs.Order.{int_mul_nonneg}
-use Rattle.road_types.specs.Numbered.{numbered, IsNumber}
+use Rattle.road_types.specs.Numbered.{IsNumber}
 use Rattle.road_types.specs.Heights.{segment_length}
-use Rattle.road_types.specs.Road.{section, hop, fixed_point, pit, access, block, no_hop, section_count, segment_count, hop_count, fixed_count, pit_count, access_count, block_count}
+use Rattle.road_types.specs.Road.{section, hop, fixed_point, pit, block, no_hop, section_count, hop_count}
 use Rattle.road_types.specs.Ranges.{height_range, AreHeightRanges}
 use Rattle.road_types.specs.WellFormed.{IsWellFormed}
-use Rattle.road_types.specs.Lines.{lines_over}
-use Rattle.road_types.specs.Volumes.{net_volume}
 use Rattle.road_types.specs.SectionForms.{grade_entries, station_entries, volume_entries}
 use Rattle.road_types.specs.HaulForms.{greatest_haul_out}
 use Rattle.road_types.specs.RoadPrograms.{lines_in}
@@ -20,14 +17,14 @@ use Rattle.road_types.specs.declared.road.Road.{Road}
 use Rattle.road_types.specs.declared.column.Column.{Column}
 use Rattle.road_types.specs.declared.column.Column.TheVariants.{Offset, Opened}
 use Rattle.plan_rules.specs.declared.plan.Plan.{Plan}
-use Rattle.plan_rules.specs.Plans.{piece_of, amount, opening, IsPlanOf}
-use Rattle.plan_rules.specs.Rules.{IsWithin, IsCapped, offset_of, height_at, end_height, end_grade, fill_less_cut, pit_share, hauled_out, IsPitCapped}
+use Rattle.plan_rules.specs.Plans.{amount, opening, IsPlanOf}
+use Rattle.plan_rules.specs.Rules.{IsWithin, IsCapped, offset_of, fill_less_cut}
 use Rattle.volume_lines.specs.SlabTables.{HasSlabTables}
 use Rattle.volume_lines.proofs.LinesLaws.{KeepsLines, volume_keeps_lines}
-use Rattle.road_points.proofs.FormValues.{form_value, form_value-negated}
+use Rattle.road_points.proofs.FormValues.{form_value-negated}
 use Rattle.road_points.proofs.FormGroups.{SectionFormsHold, HaulFormsHold}
 use Rattle.road_points.proofs.Shows.{ShowsPieces, ShowsOffsets, ShowsAmounts, ShowsOpenings, opened_by}
-use Rattle.road_points.proofs.RowValues.{height_value, grade_value, station_value, offset_value, next_height_value, next_grade_value, volume_value, balance_value, pit_value, transit_value, cut_stop_value, fill_stop_value, order_value}
+use Rattle.road_points.proofs.RowValues.{grade_value, station_value, offset_value, next_height_value, next_grade_value, volume_value, balance_value, pit_value, transit_value, cut_stop_value, fill_stop_value, order_value}
 use Rattle.road_points.proofs.PlanFacts.{PlanFacts}
 use Rattle.road_points.proofs.PointShows.{is_number_or_not, numbered_none, number_along, amount_none, opened_before, opened_from}
 
@@ -73,6 +70,7 @@ module _ (road : Road) (well : IsWellFormed road) (plan : Plan) (is_plan : IsPla
     where
       positive : pos 1 ≤ℤ plan.den
       positive = is_plan.den
+
       keeps : (i : ℕ) → IsNumber i (section_count road) → KeepsLines (lines_in road heights i) plan.den (f (Offset i)) (sum_to (fill_less_cut plan i) road.stages)
       keeps i n =
           let s = section road i in

@@ -1,21 +1,21 @@
 -- Two admissible plans over one denominator with the same point are one plan.
-use Rattle.std.proofs.Common.{◌≡◌, ℕ, zero, suc, ◌+◌, ◌-◌, ◌≤◌, ◌<◌, List, [], ◌∷◌, length, get_or, arith, ap, sym, ◌∙◌, refl, subst, ⊎_elim}
-use Rattle.std.specs.Prelude.{ℤ, pos, ◌≤ℤ◌}
+use Rattle.std.proofs.Common.{◌≡◌, ℕ, suc, ◌-◌, ◌≤◌, ◌<◌, List, [], length, arith, ap, sym, ◌∙◌, subst, ⊎_elim}
+use Rattle.std.specs.Prelude.{ℤ, pos}
 use Rattle.std.proofs.lemmas.Int.{ints}
 use Rattle.std.proofs.lemmas.Bool.{cases_lt}
 use Rattle.std.proofs.lemmas.List.{same_lists}
 use Rattle.road_types.specs.Numbered.{numbered, IsNumber}
-use Rattle.road_types.specs.Road.{section_count, segment_count, hop_count, access_count, block_count}
+use Rattle.road_types.specs.Road.{section_count, access_count, block_count}
 use Rattle.road_types.specs.WellFormed.{IsWellFormed}
 use Rattle.road_types.specs.declared.road.Road.{Road}
 use Rattle.road_types.specs.declared.column.Column.{Column}
 use Rattle.plan_rules.specs.declared.plan.Piece.{Piece}
 use Rattle.plan_rules.specs.declared.plan.Plan.{Plan}
-use Rattle.plan_rules.specs.Plans.{no_piece, piece_of, amount, opening, IsTableOf, IsPlanOf}
+use Rattle.plan_rules.specs.Plans.{no_piece, piece_of, amount, opening, IsTableOf}
 use Rattle.plan_rules.specs.Rules.{IsAdmissible, IsOpening}
 use Rattle.road_points.specs.PlanPoints.{point_of}
 use Rattle.road_points.specs.Shown.{shown}
-use Rattle.road_points.proofs.Shows.{ShowsPieces, ShowsAmounts, ShowsOpenings, opened_by}
+use Rattle.road_points.proofs.Shows.{ShowsPieces, ShowsAmounts, ShowsOpenings}
 use Rattle.road_points.proofs.PlanFacts.{facts_of_admissible}
 use Rattle.road_points.proofs.PointShows.{number_along, opened_before, opened_from, point_shows_pieces, point_shows_amounts, point_shows_openings}
 use Rattle.road_points.proofs.PointsArePlans.{other_default}
@@ -43,7 +43,7 @@ same_pieces p q a b c =
     ∙ ap (λ x. let r : Piece = record { a = q.a; b = q.b; c = x } in r) c
 
 module _ (road : Road) (well : IsWellFormed road) (p q : Plan) (admissible_p : IsAdmissible road p) (admissible_q : IsAdmissible road q)
-  (den : p.den ≡ q.den) (point : point_of road p ≡ point_of road q) where
+    (den : p.den ≡ q.den) (point : point_of road p ≡ point_of road q) where
   abbrev f : Column → ℤ
   f = shown road (point_of road q)
 
@@ -94,7 +94,7 @@ module _ (road : Road) (well : IsWellFormed road) (p q : Plan) (admissible_p : I
       let a = admissible_p.is_plan in
       let b = admissible_q.is_plan in
       let pieces = same_by_number no_piece p.pieces q.pieces (a.pieces ∙ sym b.pieces)
-          (λ g n. same_pieces (piece_of p g) (piece_of q g) (sym (pieces_p.a g) ∙ pieces_q.a g) (sym (pieces_p.b g) ∙ pieces_q.b g) (sym (pieces_p.c g) ∙ pieces_q.c g)) in
+      (λ g n. same_pieces (piece_of p g) (piece_of q g) (sym (pieces_p.a g) ∙ pieces_q.a g) (sym (pieces_p.b g) ∙ pieces_q.b g) (sym (pieces_p.c g) ∙ pieces_q.c g)) in
       let cut = same_tables road.stages (section_count road) p.cut q.cut a.cut b.cut (λ t i. sym (amounts_p.cut i t) ∙ amounts_q.cut i t) in
       let fill = same_tables road.stages (section_count road) p.fill q.fill a.fill b.fill (λ t i. sym (amounts_p.fill i t) ∙ amounts_q.fill i t) in
       let right = same_tables road.stages (section_count road - 1) p.right q.right a.right b.right (λ t i. sym (amounts_p.right i t) ∙ amounts_q.right i t) in

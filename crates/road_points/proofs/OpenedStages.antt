@@ -1,5 +1,5 @@
 -- Numbers by stage that are 0 or one number and never fall: they are 0 up to a stage, and that number from the next one on.
-use Rattle.std.proofs.Common.{◌≡◌, ℕ, zero, suc, ◌+◌, ◌≤◌, ◌<◌, Bool, true, false, cond, arith, ap, sym, ◌∙◌, refl, subst, ⊎_elim, ◌⊎◌, inl, inr}
+use Rattle.std.proofs.Common.{◌≡◌, ℕ, zero, suc, ◌+◌, ◌≤◌, ◌<◌, true, false, cond, arith, ap, sym, ◌∙◌, refl, ⊎_elim, ◌⊎◌}
 use Rattle.std.specs.Prelude.{ℤ, pos, ◌≤ℤ◌, ◌<ℤ◌}
 use Rattle.std.specs.Ordering.{int_eq}
 use Rattle.std.proofs.lemmas.Int.{ints}
@@ -37,10 +37,10 @@ module _ (h : ℕ → ℤ) (den : ℤ) (positive : pos 0 <ℤ den) where
       (λ (e : h (suc n) ≡ pos 0).
       let more = zero_more n e in
       let all : n ≤ zeros_to h n =
-          ⊎_elim
-          (λ (l : zeros_to h n < n). let up = rises n (omega arith) (omega arith) in let last = s.after n l (omega arith) in absurd (omega (arith, ints)))
-          (λ (l : n ≤ zeros_to h n). l)
-          (cases_lt (zeros_to h n) n) in
+      ⊎_elim
+      (λ (l : zeros_to h n < n). let up = rises n (omega arith) (omega arith) in let last = s.after n l (omega arith) in absurd (omega (arith, ints)))
+      (λ (l : n ≤ zeros_to h n). l)
+      (cases_lt (zeros_to h n) n) in
       record {
         most = omega (arith, s.most);
         before = λ t low high.

@@ -1,21 +1,18 @@
 -- The plan that a point shows.
-use Rattle.std.proofs.Common.{◌≡◌, ℕ, zero, suc, ◌+◌, ◌-◌, ◌≤◌, ◌<◌, List, [], ◌∷◌, ◌++◌, length, get_or, arith, ap, sym, ◌∙◌, refl, subst, ⊎_elim, ◌⊎◌, inl, inr}
-use Rattle.std.specs.Prelude.{ℤ, pos, ◌≤ℤ◌, ◌-ℤ◌}
-use Rattle.std.proofs.lemmas.Int.{ints}
-use Rattle.std.proofs.lemmas.Bool.{cases_lt}
+use Rattle.std.proofs.Common.{◌≡◌, ℕ, zero, suc, ◌-◌, ◌<◌, List, [], ◌∷◌, length, get_or, arith, ap, sym, ◌∙◌, refl, subst, ⊎_elim}
+use Rattle.std.specs.Prelude.{ℤ, pos, ◌≤ℤ◌}
 use Rattle.algebra.specs.Lists.{list_to}
 use Rattle.algebra.proofs.ListsLemmas.{length-list_to, list_to_entry}
 use Rattle.road_types.specs.Numbered.{numbered, IsNumber}
-use Rattle.road_types.specs.Road.{section, section_count, segment_count, hop_count, access_count, block_count}
-use Rattle.road_types.specs.Heights.{segment_at, steps_along, height_along}
+use Rattle.road_types.specs.Road.{section_count, segment_count, hop_count, access_count, block_count}
 use Rattle.road_types.specs.declared.road.Road.{Road}
 use Rattle.road_types.specs.declared.column.Column.{Column}
-use Rattle.road_types.specs.declared.column.Column.TheVariants.{A, B, C, Offset, Cut, Fill, Right, Left, Access, Opened}
+use Rattle.road_types.specs.declared.column.Column.TheVariants.{A, B, C, Cut, Fill, Right, Left, Access}
 use Rattle.plan_rules.specs.declared.plan.Piece.{Piece}
 use Rattle.plan_rules.specs.declared.plan.Plan.{Plan}
 use Rattle.plan_rules.specs.Plans.{no_piece, piece_of, amount, opening, IsTableOf, IsPlanOf}
 use Rattle.road_points.specs.Shown.{shown}
-use Rattle.road_points.specs.ShownPlan.{table_to, zeros_to, piece_at, opening_at, plan_at}
+use Rattle.road_points.specs.ShownPlan.{table_to, piece_at, opening_at, plan_at}
 use Rattle.road_points.proofs.Shows.{ShowsPieces, ShowsAmounts}
 use Rattle.road_points.proofs.PointShows.{is_number_or_not, numbered_none, number_along, shown_none, shown_table}
 

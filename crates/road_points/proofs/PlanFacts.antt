@@ -1,6 +1,6 @@
 -- What an admissible plan keeps, fact by fact, and the other way round.
-use Rattle.std.proofs.Common.{◌≡◌, ℕ, zero, suc, ◌+◌, ◌-◌, ◌≤◌, Bool, true, false, cond, arith, ap, sym, refl, subst, ⊎_elim}
-use Rattle.std.specs.Prelude.{ℤ, nat_le, ◌==◌, ◌&&◌, if◌then◌else◌}
+use Rattle.std.proofs.Common.{◌≡◌, ℕ, zero, suc, ◌+◌, ◌-◌, Bool, true, false, cond, arith, ap, sym, refl, subst}
+use Rattle.std.specs.Prelude.{nat_le, ◌==◌, ◌&&◌, if◌then◌else◌}
 use Rattle.std.proofs.lemmas.Bool.Decides.{nat_tests}
 use Rattle.road_types.specs.Numbered.{IsNumber}
 use Rattle.road_types.specs.Road.{section, hop, access, section_count, segment_count, fixed_count, pit_count, access_count, block_count}

@@ -1,8 +1,7 @@
 -- Plans are points: the point of an admissible plan, over any denominator, meets the rows of every program whose ranges the plan
 -- keeps to, in the bounds, and costs what the plan costs.
-use Rattle.std.proofs.Common.{◌≡◌, ℕ, zero, suc, ◌+◌, ◌-◌, ◌≤◌, ◌<◌, Bool, true, false, List, map, length, get_or, arith, ap, sym, ◌∙◌, refl, subst, ⊎_elim, ◌⊎◌, inl, inr}
+use Rattle.std.proofs.Common.{◌≡◌, ℕ, zero, suc, ◌-◌, ◌≤◌, ◌<◌, Bool, true, false, List, length, get_or, arith, ap, sym, ◌∙◌, subst, ⊎_elim}
 use Rattle.std.specs.Prelude.{ℤ, pos, ◌*ℤ◌, ◌≤ℤ◌, nat_lt, nat_le, if◌then◌else◌}
-use Rattle.std.specs.List.{All}
 use Rattle.std.proofs.lemmas.Int.{ints}
 use Rattle.std.proofs.lemmas.Bool.{cases_lt}
 use Rattle.std.proofs.lemmas.Bool.Decides.{nat_tests}
@@ -11,17 +10,17 @@ use Rattle.algebra.specs.Sums.{sum_to}
 use Rattle.algebra.proofs.Products.{int_zero_mul, int_one_mul}
 use Rattle.road_types.specs.Numbered.{numbered, IsNumber}
 use Rattle.programs.specs.Programs.{Program, column_count, bounds_at}
-use Rattle.programs.specs.Points.{IsPoint, MeetsRows, IsInBounds, IsInBoundsAt, numerator_at, cost_share, cost_of_point}
-use Rattle.road_types.specs.Road.{section_count, segment_count, hop_count, access_count, block_count}
+use Rattle.programs.specs.Points.{IsPoint, MeetsRows, IsInBoundsAt, cost_share, cost_of_point}
+use Rattle.road_types.specs.Road.{section_count, hop_count, block_count}
 use Rattle.road_types.specs.Columns.{columns_of, bounds_of, unit_cost, opened_bounds}
-use Rattle.road_types.specs.Ranges.{height_range, AreHeightRanges}
+use Rattle.road_types.specs.Ranges.{AreHeightRanges}
 use Rattle.road_types.specs.WellFormed.{IsWellFormed}
 use Rattle.road_types.specs.RoadPrograms.{road_program, lines_in}
 use Rattle.road_types.specs.declared.road.Road.{Road}
 use Rattle.road_types.specs.declared.column.Column.{Column}
 use Rattle.road_types.specs.declared.column.Column.TheVariants.{A, B, C, Offset, Cut, Fill, Right, Left, Access, Opened}
 use Rattle.plan_rules.specs.declared.plan.Plan.{Plan}
-use Rattle.plan_rules.specs.Plans.{opening, IsPlanOf}
+use Rattle.plan_rules.specs.Plans.{opening}
 use Rattle.plan_rules.specs.Rules.{IsWithin, IsAdmissible}
 use Rattle.plan_rules.specs.Costs.{cost_of}
 use Rattle.road_points.specs.PlanPoints.{value_in, point_of}
@@ -32,7 +31,7 @@ use Rattle.road_points.proofs.PlanFacts.{PlanFacts, facts_of_admissible}
 use Rattle.road_points.proofs.RoadKinds.{IsKindOf, all_kinds}
 use Rattle.road_points.proofs.PointShows.{number_along, point_shows_pieces, point_shows_offsets, point_shows_amounts, point_shows_openings, opened_before, opened_from}
 use Rattle.road_points.proofs.FormsHold.{OffsetsInside, section_forms_hold, haul_forms_hold}
-use Rattle.road_points.proofs.PointCost.{kind_sum, sum_of_maps, cost_by_kinds}
+use Rattle.road_points.proofs.PointCost.{sum_of_maps, cost_by_kinds}
 
 -- every opening lies in its range
 pub record OpeningsInside (road : Road) (plan : Plan) (openings : List (ℕ × ℕ)) : Type 0 where
@@ -44,7 +43,7 @@ abbrev chosen : Bool → Bool → ℤ × ℤ
 chosen shut open_now = if shut then (pos 0, pos 0) else if open_now then (pos 1, pos 1) else (pos 0, pos 1)
 
 module _ (road : Road) (well : IsWellFormed road) (plan : Plan) (h : IsAdmissible road plan) (heights : List (ℤ × ℤ)) (openings : List (ℕ × ℕ))
-  (ranges : AreHeightRanges road heights) (offsets_in : OffsetsInside road plan heights) (openings_in : OpeningsInside road plan openings) where
+    (ranges : AreHeightRanges road heights) (offsets_in : OffsetsInside road plan heights) (openings_in : OpeningsInside road plan openings) where
   facts : PlanFacts road plan
   facts = facts_of_admissible road plan h
 

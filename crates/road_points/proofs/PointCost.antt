@@ -1,10 +1,9 @@
 -- What the point of a plan costs is what the plan costs.
-use Rattle.std.proofs.Common.{◌≡◌, ℕ, zero, suc, ◌+◌, ◌-◌, ◌≤◌, ◌<◌, Bool, true, false, List, [], ◌∷◌, ◌++◌, map, length, get_or, arith, ap, sym, ◌∙◌, refl, subst, ⊎_elim}
+use Rattle.std.proofs.Common.{◌≡◌, ℕ, zero, suc, ◌+◌, ◌-◌, ◌≤◌, ◌<◌, Bool, true, false, List, [], ◌∷◌, ◌++◌, map, length, arith, ap, sym, ◌∙◌, refl, ⊎_elim}
 use Rattle.std.specs.Prelude.{ℤ, pos, ◌+ℤ◌, ◌*ℤ◌, ◌==◌, nat_le, if◌then◌else◌}
 use Rattle.std.proofs.lemmas.Int.{ints}
 use Rattle.std.proofs.lemmas.Bool.{cases_lt}
 use Rattle.std.proofs.lemmas.Bool.Decides.{nat_tests}
-use Rattle.std.proofs.lemmas.List.{length-map}
 use Rattle.algebra.specs.Lists.{list_to, flat_to}
 use Rattle.algebra.specs.Sums.{sum_to}
 use Rattle.algebra.proofs.Products.{int_zero_mul, int_mul_zero, int_mul_comm}
@@ -21,7 +20,7 @@ use Rattle.plan_rules.specs.Rules.{IsOpening}
 use Rattle.plan_rules.specs.Costs.{stage_cost, movement_cost, removal_cost, removal_total, cost_of}
 use Rattle.road_points.specs.PlanPoints.{value_in}
 use Rattle.road_points.proofs.Shows.{opened_by}
-use Rattle.road_points.proofs.PointShows.{opened_before, opened_from}
+use Rattle.road_points.proofs.PointShows.{opened_before}
 
 -- ---- sums over kinds
 

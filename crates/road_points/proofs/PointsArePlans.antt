@@ -1,48 +1,47 @@
 -- Points are plans: a point that meets the rows of a program over ranges, in the bounds, with whole removals and exact volumes, is
 -- the point of one admissible plan, which keeps to the ranges. Volumes are exact where no breakpoint lies strictly inside a range.
-use Rattle.std.proofs.Common.{◌≡◌, ℕ, zero, suc, ◌+◌, ◌-◌, ◌≤◌, ◌<◌, Some, List, [], ◌∷◌, map, length, get_or, arith, ap, sym, ◌∙◌, refl, subst, ⊎_elim, ◌⊎◌, inl, inr, Bool, true, false}
-use Rattle.std.specs.Prelude.{nat_lt, nat_le, if◌then◌else◌, ℤ, pos, neg_ℤ, ◌-ℤ◌, ◌*ℤ◌, ◌≤ℤ◌, ◌<ℤ◌}
-use Rattle.std.specs.List.{All}
+use Rattle.std.proofs.Common.{◌≡◌, ℕ, zero, suc, ◌+◌, ◌-◌, ◌≤◌, ◌<◌, List, [], ◌∷◌, length, get_or, arith, ap, sym, ◌∙◌, refl, subst, ⊎_elim, ◌⊎◌, inl, inr, Bool, true, false}
+use Rattle.std.specs.Prelude.{nat_lt, nat_le, if◌then◌else◌, ℤ, pos, neg_ℤ, ◌-ℤ◌, ◌*ℤ◌, ◌≤ℤ◌}
 use Rattle.std.proofs.lemmas.Int.{ints}
 use Rattle.std.proofs.lemmas.Bool.{cases_lt}
 use Rattle.std.proofs.lemmas.Bool.Decides.{nat_tests}
 use Rattle.std.proofs.lemmas.List.{length-map, get_or-map, same_lists}
 use Rattle.algebra.specs.Sums.{sum_to}
-use Rattle.algebra.proofs.Products.{int_zero_mul, int_one_mul, int_mul_zero, int_mul_comm, int_mul_neg, int_neg_mul}
+use Rattle.algebra.proofs.Products.{int_zero_mul, int_one_mul, int_mul_zero, int_mul_comm, int_mul_neg}
 use Rattle.algebra.proofs.Order.{int_mul_le_right}
 use Rattle.algebra.proofs.SumsLemmas.{sum_to_ext}
 use Rattle.road_types.specs.Numbered.{numbered, IsNumber}
-use Rattle.programs.specs.Programs.{Program, column_count, bounds_at}
+use Rattle.programs.specs.Programs.{bounds_at}
 use Rattle.programs.specs.Points.{IsPoint, numerator_at}
 use Rattle.road_types.specs.Heights.{segment_length}
-use Rattle.road_types.specs.Road.{section, hop, fixed_point, pit, block, section_count, segment_count, hop_count, fixed_count, pit_count, access_count, block_count}
+use Rattle.road_types.specs.Road.{section, hop, fixed_point, pit, block, section_count, hop_count, block_count}
 use Rattle.road_types.specs.Columns.{columns_of, bounds_of, opened_bounds}
 use Rattle.road_types.specs.Ranges.{height_range, AreHeightRanges}
 use Rattle.road_types.specs.WellFormed.{IsWellFormed}
 use Rattle.road_types.specs.Volumes.{thickness_of, net_volume}
 use Rattle.road_types.specs.SectionForms.{grade_entries, station_entries, volume_entries}
-use Rattle.road_types.specs.HaulForms.{greatest_haul_out, order_form, cut_stop_form, fill_stop_form}
+use Rattle.road_types.specs.HaulForms.{greatest_haul_out, cut_stop_form, fill_stop_form}
 use Rattle.road_types.specs.RoadPrograms.{road_program, lines_in}
 use Rattle.road_types.specs.declared.road.Road.{Road}
 use Rattle.road_types.specs.declared.column.Column.{Column}
 use Rattle.road_types.specs.declared.column.Column.TheVariants.{A, B, C, Offset, Cut, Fill, Right, Left, Access, Opened}
 use Rattle.plan_rules.specs.declared.plan.Plan.{Plan}
-use Rattle.plan_rules.specs.Plans.{piece_of, amount, opening, IsPlanOf}
-use Rattle.plan_rules.specs.Rules.{IsWithin, IsCapped, IsAdmissible, IsOpening, RespectsBlock, offset_of, height_at, fill_less_cut, hauled_out}
+use Rattle.plan_rules.specs.Plans.{piece_of, amount, opening}
+use Rattle.plan_rules.specs.Rules.{IsWithin, IsCapped, IsAdmissible, IsOpening, RespectsBlock, offset_of, fill_less_cut}
 use Rattle.volume_lines.specs.InnerBreakpoints.{HasBreakpointInside}
 use Rattle.volume_lines.proofs.LinesLaws.{KeepsLines, volume_is_exact, breakpoint_inside, breakpoint_from_bottom, breakpoint_to_top}
 use Rattle.road_points.specs.PlanPoints.{value_in, point_of}
 use Rattle.road_points.specs.Shown.{shown_at, shown, HasWholeRemovals, moved_volume, IsExactAt, HasExactVolumes}
-use Rattle.road_points.proofs.FormValues.{form_value, form_value-negated, FormHolds}
+use Rattle.road_points.proofs.FormValues.{form_value-negated, FormHolds}
 use Rattle.road_points.proofs.FormGroups.{SectionFormsHold, HaulFormsHold, section_groups_from_rows, haul_groups_from_rows}
-use Rattle.road_points.proofs.Shows.{ShowsPieces, ShowsOffsets, ShowsAmounts, ShowsOpenings, opened_by}
-use Rattle.road_points.proofs.RowValues.{height_value, grade_value, station_value, offset_value, next_height_value, next_grade_value, volume_value, balance_value, pit_value, transit_value, cut_stop_value, fill_stop_value, order_value}
+use Rattle.road_points.proofs.Shows.{ShowsPieces, ShowsOffsets, ShowsAmounts, ShowsOpenings}
+use Rattle.road_points.proofs.RowValues.{grade_value, station_value, offset_value, next_height_value, next_grade_value, volume_value, balance_value, pit_value, transit_value, cut_stop_value, fill_stop_value, order_value}
 use Rattle.road_points.proofs.PlanFacts.{PlanFacts, admissible_of_facts}
 use Rattle.road_points.proofs.RoadKinds.{IsKindOf, all_kinds, kinds_all, number_at}
 use Rattle.road_points.proofs.PointShows.{number_along, shown_none, opened_before, opened_from}
 use Rattle.road_points.proofs.FormsHold.{OffsetsInside, tables_of}
 use Rattle.road_points.proofs.PlansArePoints.{OpeningsInside}
-use Rattle.road_points.specs.ShownPlan.{zeros_to, opening_at, plan_at}
+use Rattle.road_points.specs.ShownPlan.{zeros_to, plan_at}
 use Rattle.road_points.proofs.OpenedStages.{IsStep, is_step}
 use Rattle.road_points.proofs.PlanAt.{plan_at_is_plan, plan_at_shows_pieces, plan_at_shows_amounts, opening_of_plan_at}
 
@@ -65,7 +64,7 @@ abbrev chosen : Bool → Bool → ℤ × ℤ
 chosen shut open_now = if shut then (pos 0, pos 0) else if open_now then (pos 1, pos 1) else (pos 0, pos 1)
 
 module _ (road : Road) (well : IsWellFormed road) (heights : List (ℤ × ℤ)) (openings : List (ℕ × ℕ)) (ranges : AreHeightRanges road heights)
-  (den : ℤ) (positive : pos 1 ≤ℤ den) (point : List ℤ) (is_point : IsPoint (road_program road heights openings) den point) where
+    (den : ℤ) (positive : pos 1 ≤ℤ den) (point : List ℤ) (is_point : IsPoint (road_program road heights openings) den point) where
   abbrev f : Column → ℤ
   f = shown road point
 
@@ -89,7 +88,7 @@ module _ (road : Road) (well : IsWellFormed road) (heights : List (ℤ × ℤ)) 
   number_is : (k : ℕ) (d : Column) → k < length (columns_of road) → f (get_or (columns_of road) k d) ≡ numerator_at point (suc k)
   number_is k d l = ap (shown_at point) (number_at road k d l)
 
-  kind_within : (kind : Column) → IsKindOf road kind → IsWithin (bounds_of road heights openings kind).0 (bounds_of road heights openings kind).1 den (f kind)
+  pub kind_within : (kind : Column) → IsKindOf road kind → IsWithin (bounds_of road heights openings kind).0 (bounds_of road heights openings kind).1 den (f kind)
   kind_within =
       kinds_all road (λ c. IsWithin (bounds_of road heights openings c).0 (bounds_of road heights openings c).1 den (f c))
       (λ k d l.
@@ -195,10 +194,10 @@ module _ (road : Road) (well : IsWellFormed road) (heights : List (ℤ × ℤ)) 
         let s = step k n in
         let o = opening_is k n in
         let some : 1 ≤ zeros_to (opened k) road.stages =
-            ⊎_elim
-            (λ (l : zeros_to (opened k) road.stages < 1). let first = s.after 1 l well.counted.stages_from in let closed = not_yet k 1 (omega arith) in absurd (omega (arith, ints)))
-            (λ (l : 1 ≤ zeros_to (opened k) road.stages). l)
-            (cases_lt (zeros_to (opened k) road.stages) 1) in
+        ⊎_elim
+        (λ (l : zeros_to (opened k) road.stages < 1). let first = s.after 1 l well.counted.stages_from in let closed = not_yet k 1 (omega arith) in absurd (omega (arith, ints)))
+        (λ (l : 1 ≤ zeros_to (opened k) road.stages). l)
+        (cases_lt (zeros_to (opened k) road.stages) 1) in
         record { from_two = omega arith; at_most = omega (arith, s.most) }
 
     -- ---- the openings lie in their ranges

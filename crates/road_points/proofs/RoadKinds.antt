@@ -1,20 +1,17 @@
 -- The kinds of column that a road has, by the numbers in them. What holds of each of them holds along the list of columns, and
 -- the other way round; a kind has a column number exactly where the road has it.
-use Rattle.std.proofs.Common.{◌≡◌, ℕ, zero, suc, ◌+◌, ◌-◌, ◌≤◌, ◌<◌, Option, Some, None, List, [], ◌∷◌, ◌++◌, map, length, get_or, arith, ap, sym, ◌∙◌, refl, subst, ⊎_elim, ◌⊎◌, inl, inr}
-use Rattle.std.specs.Prelude.{ℤ}
+use Rattle.std.proofs.Common.{◌≡◌, ℕ, zero, suc, ◌+◌, ◌-◌, ◌≤◌, ◌<◌, Some, None, List, [], ◌∷◌, ◌++◌, length, get_or, arith, refl, subst}
 use Rattle.std.specs.List.{All}
-use Rattle.std.proofs.lemmas.Bool.{cases_lt}
-use Rattle.std.proofs.lemmas.List.{length-map, get_or-map}
-use Rattle.std.proofs.lemmas.List.Elements.{All-append, All-cons, All-nil, All-head, All-tail}
-use Rattle.algebra.specs.Lists.{list_to, flat_to, IsEntry}
-use Rattle.road_types.specs.Numbered.{numbered, IsNumber}
+use Rattle.std.proofs.lemmas.List.Elements.{All-append, All-cons, All-head, All-tail}
+use Rattle.algebra.specs.Lists.{list_to, flat_to}
+use Rattle.road_types.specs.Numbered.{IsNumber}
 use Rattle.road_types.specs.Road.{section_count, segment_count, hop_count, access_count, block_count}
-use Rattle.road_types.specs.Columns.{columns_of, segment_columns, stage_columns, block_columns, IsColumn, column_number}
+use Rattle.road_types.specs.Columns.{columns_of, segment_columns, stage_columns, block_columns, column_number}
 use Rattle.road_types.specs.declared.road.Road.{Road}
 use Rattle.road_types.specs.declared.column.Column.{Column}
 use Rattle.road_types.specs.declared.column.Column.TheVariants.{A, B, C, Offset, Cut, Fill, Right, Left, Access, Opened}
 use Rattle.road_types.proofs.ColumnPlaces.{IsColumn-from_number, column_number-from_IsColumn}
-use Rattle.road_points.proofs.FormGroups.{all_left, all_right, all_flat_to, flat_to_all, all_list_to, list_to_all, all_one, one_all, second_of}
+use Rattle.road_points.proofs.FormGroups.{all_left, all_right, all_flat_to, flat_to_all, all_list_to, list_to_all, all_one, second_of}
 
 -- the road has a column of this kind
 abbrev pub IsKindOf : Road → Column → Type 0

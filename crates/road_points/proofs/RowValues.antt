@@ -1,15 +1,13 @@
 -- The value of each row where values of kinds show a plan: in the words of the plan's rules.
-use Rattle.std.proofs.Common.{◌≡◌, ℕ, zero, suc, ◌+◌, ◌-◌, ◌≤◌, Bool, true, false, List, [], ◌∷◌, ◌++◌, arith, ap, sym, ◌∙◌, refl, subst}
+use Rattle.std.proofs.Common.{◌≡◌, ℕ, ◌+◌, ◌-◌, Bool, true, false, List, [], ◌∷◌, arith, ap, ◌∙◌}
 use Rattle.std.specs.Prelude.{ℤ, pos, neg_ℤ, ◌+ℤ◌, ◌-ℤ◌, ◌*ℤ◌, ◌==◌, ◌&&◌, if◌then◌else◌}
 use Rattle.std.proofs.lemmas.Int.{ints}
 use Rattle.algebra.specs.Lists.{list_to, flat_to}
 use Rattle.algebra.specs.Sums.{sum_to}
 use Rattle.algebra.proofs.Products.{mults, numerals, int_neg_mul}
 use Rattle.algebra.proofs.SumsLemmas.{sum_to_ext, sum_to_sub, sum_to_neg, sum_to_swap, sum_to_mul_left}
-use Rattle.road_types.specs.Numbered.{IsNumber}
 use Rattle.road_types.specs.Heights.{height_along, grade_along, segment_at, segment_length, steps_along}
-use Rattle.road_types.specs.Road.{section, fixed_point, access, block, pit, hop, section_count, access_count, same_kind, serves}
-use Rattle.road_types.specs.Forms.{Form, negated}
+use Rattle.road_types.specs.Road.{section, access, block, pit, access_count, same_kind}
 use Rattle.road_types.specs.SectionForms.{height_entries, grade_entries, station_entries, offset_form, next_height_form, next_grade_form, volume_entries}
 use Rattle.road_types.specs.HaulForms.{brought, balance_form, taken, pit_form, greatest_haul_out, transit_form, cut_stop_form, fill_stop_form, order_form}
 use Rattle.road_types.specs.declared.road.Road.{Road}
@@ -19,9 +17,9 @@ use Rattle.road_types.specs.declared.column.Column.{Column}
 use Rattle.road_types.specs.declared.column.Column.TheVariants.{A, B, C, Offset, Cut, Fill, Right, Left, Access, Opened}
 use Rattle.plan_rules.specs.declared.plan.Plan.{Plan}
 use Rattle.plan_rules.specs.Plans.{piece_of, amount}
-use Rattle.plan_rules.specs.Rules.{height_at, offset_of, end_height, end_grade, fill_less_cut, road_total, pit_share, access_share, borrowed_in, wasted_out, hauled_in, hauled_out, earth_in, earth_out}
+use Rattle.plan_rules.specs.Rules.{height_at, end_height, end_grade, fill_less_cut, access_amount, pit_share, access_share, borrowed_in, wasted_out, hauled_out, earth_in, earth_out}
 use Rattle.road_points.proofs.FormValues.{form_value, form_value-append, form_value-list_to, form_value-flat_to}
-use Rattle.road_points.proofs.Shows.{ShowsPieces, ShowsOffsets, ShowsAmounts, ShowsOpenings, opened_by}
+use Rattle.road_points.proofs.Shows.{ShowsPieces, ShowsAmounts}
 
 -- ---- heights and grades
 
@@ -125,7 +123,7 @@ module _ (road : Road) (plan : Plan) (f : Column → ℤ) (amounts : ShowsAmount
       ∙ sum_to_ext (λ q. sum_to (λ t. taken road p q *ℤ amount plan.roads t q) road.stages) (λ q. neg_ℤ (pit_share road plan p q)) count
       (λ q low high.
       sum_to_mul_left (taken road p q) (λ t. amount plan.roads t q) road.stages
-      ∙ taken_part ((access road q).pit == p) (road_total plan q road.stages))
+      ∙ taken_part ((access road q).pit == p) (access_amount plan q road.stages))
       ∙ sum_to_neg (pit_share road plan p) count
 
   pub transit_value : (k t : ℕ) → form_value f (transit_form road k t).entries

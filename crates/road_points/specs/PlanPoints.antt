@@ -1,5 +1,5 @@
 -- The point of a plan: the plan's numbers, one for each column of the road's program, over the plan's denominator.
-use Rattle.std.specs.Prelude.{ℕ, nat_le, if◌then◌else◌, List, map, ℤ, pos}
+use Rattle.std.specs.Prelude.{nat_le, if◌then◌else◌, List, map, ℤ, pos}
 use Rattle.road_types.specs.Columns.{columns_of}
 use Rattle.road_types.specs.declared.road.Road.{Road}
 use Rattle.road_types.specs.declared.column.Column.{Column}

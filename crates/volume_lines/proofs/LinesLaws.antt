@@ -1,8 +1,7 @@
 -- The volume at every offset of a range between breakpoints keeps to the range's four lines, and where no breakpoint lies
 -- strictly inside, it is the only one that does.
-use Rattle.std.proofs.Common.{◌≡◌, ℕ, zero, suc, List, [], ◌∷◌, ◌++◌, length, arith, ap, sym, subst, ◌∙◌, refl, ⊎_elim, ◌⊎◌, inl, inr}
-use Rattle.std.specs.Prelude.{ℤ, pos, neg_ℤ, ◌+ℤ◌, ◌-ℤ◌, ◌*ℤ◌, ◌≤ℤ◌, ◌<ℤ◌, fold}
-use Rattle.std.specs.Int.{int_min, int_max}
+use Rattle.std.proofs.Common.{◌≡◌, ℕ, zero, suc, List, [], ◌∷◌, ◌++◌, length, arith, ap, subst, ◌∙◌, refl, ⊎_elim, ◌⊎◌, inl, inr}
+use Rattle.std.specs.Prelude.{ℤ, pos, neg_ℤ, ◌+ℤ◌, ◌-ℤ◌, ◌*ℤ◌, ◌≤ℤ◌, ◌<ℤ◌}
 use Rattle.std.specs.List.{All}
 use Rattle.std.proofs.lemmas.Int.{ints, clamps}
 use Rattle.std.proofs.lemmas.List.Elements.{All-nil, All-cons, All-head, All-tail}
@@ -207,10 +206,10 @@ module _ (s : Section) (tables : HasSlabTables s) where
         ⊎_elim
         (λ (l : range.0 <ℤ pos 0).
         let below : range.1 ≤ℤ pos 0 =
-            ⊎_elim
-            (λ (h : pos 0 <ℤ range.1). absurd (none (pos 0, (zero_is_breakpoint s, (l, h)))))
-            (λ (h : range.1 ≤ℤ pos 0). h)
-            (int_lt_or_le (pos 0) range.1) in
+        ⊎_elim
+        (λ (h : pos 0 <ℤ range.1). absurd (none (pos 0, (zero_is_breakpoint s, (l, h)))))
+        (λ (h : range.1 ≤ℤ pos 0). h)
+        (int_lt_or_le (pos 0) range.1) in
         let o = one_slope s.cut (pos 0) (neg_ℤ range.1) (neg_ℤ range.0) thick_cut (area_table s.cut tables.cut) (no_cut_end none)
         (between_cut range.1 is_range.high) (between_cut range.0 is_range.low) (omega (arith, ints)) (omega (arith, ints, is_range.ordered))
         (omega (arith, ints, breakpoint_from_bottom range.0 is_range.low)) in
@@ -238,8 +237,8 @@ module _ (s : Section) (tables : HasSlabTables s) where
         let at_p = volume_at s range.0 in
         let at_q = volume_at s range.1 in
         let one : lines_over s range ≡ lines_through o.area o.area (range.0, at_p) (range.1, at_q) =
-            ap (λ r. lines_through r (greatest_area (slopes_between s range)) (range.0, at_p) (range.1, at_q)) (one_least o)
-            ∙ ap (λ r. lines_through o.area r (range.0, at_p) (range.1, at_q)) (one_greatest o) in
+        ap (λ r. lines_through r (greatest_area (slopes_between s range)) (range.0, at_p) (range.1, at_q)) (one_least o)
+        ∙ ap (λ r. lines_through o.area r (range.0, at_p) (range.1, at_q)) (one_greatest o) in
         one_volume o.area range.0 range.1 at_p at_q den u v (net_volume s.cut s.fill u den)
         (subst (λ (l : Lines). KeepsLines l den u v) one k)
         (subst (λ (l : Lines). KeepsLines l den u (net_volume s.cut s.fill u den)) one (volume_keeps_lines den u d x y))

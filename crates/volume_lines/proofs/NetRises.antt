@@ -3,11 +3,11 @@ use Rattle.std.proofs.Common.{◌≡◌, List, [], ◌∷◌, arith, ap, sym, �
 use Rattle.std.specs.Prelude.{ℤ, pos, neg_ℤ, ◌+ℤ◌, ◌-ℤ◌, ◌*ℤ◌, ◌≤ℤ◌, ◌<ℤ◌}
 use Rattle.std.specs.Int.{int_min, int_max}
 use Rattle.std.proofs.lemmas.Int.{ints, clamps}
-use Rattle.algebra.proofs.Products.{mults, int_mul_one, int_sub_mul, int_neg_mul, int_mul_add, int_zero_mul}
+use Rattle.algebra.proofs.Products.{mults, int_mul_one, int_sub_mul, int_neg_mul, int_zero_mul}
 use Rattle.algebra.proofs.Order.{int_lt_or_le, int_min_mul, int_max_mul}
 use Rattle.road_types.specs.declared.road.Slab.{Slab}
 use Rattle.road_types.specs.Volumes.{volume_to, thickness_of, net_volume}
-use Rattle.volume_lines.proofs.SlabRises.{AreThick, AreSlopesWithin, IsRise, rise_as, rise_of_none, rise_of_sum, volume_rises, volume_of_none}
+use Rattle.volume_lines.proofs.SlabRises.{AreThick, AreSlopesWithin, IsRise, rise_as, rise_of_none, rise_of_sum, volume_rises}
 
 -- the part of a rise that fill slabs have: above the ground
 fill_rises : (fill : List Slab) (p q lo hi den a b : ℤ) → pos 0 <ℤ den → AreThick fill → AreSlopesWithin fill (pos 0) p q lo hi
@@ -58,7 +58,7 @@ volume_scales (slab ∷ slabs) depth den d =
     let one = int_mul_one slab.thick in
     let first = ap (λ x. slab.area *ℤ x) (int_min_mul depth slab.thick den d) in
     let less : int_max (depth *ℤ den -ℤ slab.thick *ℤ den) (pos 0) ≡ int_max (depth -ℤ slab.thick) (pos 0) *ℤ den =
-        ap (λ x. int_max x (pos 0)) (sym (int_sub_mul depth slab.thick den)) ∙ ap (λ x. int_max ((depth -ℤ slab.thick) *ℤ den) x) (sym (int_zero_mul den)) ∙ int_max_mul (depth -ℤ slab.thick) (pos 0) den d in
+    ap (λ x. int_max x (pos 0)) (sym (int_sub_mul depth slab.thick den)) ∙ ap (λ x. int_max ((depth -ℤ slab.thick) *ℤ den) x) (sym (int_zero_mul den)) ∙ int_max_mul (depth -ℤ slab.thick) (pos 0) den d in
     let rest = ap (λ x. volume_to slabs x den) less ∙ volume_scales slabs (int_max (depth -ℤ slab.thick) (pos 0)) den d in
     let first_one = ap (λ x. slab.area *ℤ int_min depth x) one in
     let rest_one = ap (λ x. volume_to slabs (int_max (depth -ℤ x) (pos 0)) (pos 1)) one in
@@ -68,7 +68,7 @@ pub net_scales : (cut fill : List Slab) (offset den : ℤ) → pos 0 ≤ℤ den 
 net_scales cut fill offset den d =
     let above : int_max (offset *ℤ den) (pos 0) ≡ int_max offset (pos 0) *ℤ den = ap (λ x. int_max (offset *ℤ den) x) (sym (int_zero_mul den)) ∙ int_max_mul offset (pos 0) den d in
     let below : int_max (neg_ℤ (offset *ℤ den)) (pos 0) ≡ int_max (neg_ℤ offset) (pos 0) *ℤ den =
-        ap (λ x. int_max x (pos 0)) (sym (int_neg_mul offset den)) ∙ ap (λ x. int_max (neg_ℤ offset *ℤ den) x) (sym (int_zero_mul den)) ∙ int_max_mul (neg_ℤ offset) (pos 0) den d in
+    ap (λ x. int_max x (pos 0)) (sym (int_neg_mul offset den)) ∙ ap (λ x. int_max (neg_ℤ offset *ℤ den) x) (sym (int_zero_mul den)) ∙ int_max_mul (neg_ℤ offset) (pos 0) den d in
     let filled = ap (λ x. volume_to fill x den) above ∙ volume_scales fill (int_max offset (pos 0)) den d in
     let dug = ap (λ x. volume_to cut x den) below ∙ volume_scales cut (int_max (neg_ℤ offset) (pos 0)) den d in
     simp mults (omega (arith, ints, filled, dug))

@@ -1,6 +1,6 @@
 -- Between two breakpoints without another one strictly inside lies one slab; whether there is another one can be told.
-use Rattle.std.proofs.Common.{◌≡◌, ℕ, zero, suc, List, [], ◌∷◌, ◌++◌, take, Bool, true, false, cond, arith, ap, sym, subst, ◌∙◌, refl, ⊎_elim, ◌⊎◌, inl, inr}
-use Rattle.std.specs.Prelude.{ℤ, pos, neg_ℤ, ◌+ℤ◌, ◌≤ℤ◌, ◌<ℤ◌, int_le, ◌&&◌}
+use Rattle.std.proofs.Common.{◌≡◌, ℕ, zero, suc, List, [], ◌∷◌, ◌++◌, Bool, true, false, cond, arith, ap, ◌∙◌, refl, ⊎_elim, ◌⊎◌, inl, inr}
+use Rattle.std.specs.Prelude.{ℤ, pos, ◌+ℤ◌, ◌≤ℤ◌, ◌<ℤ◌, int_le, ◌&&◌}
 use Rattle.std.proofs.lemmas.Int.{ints}
 use Rattle.algebra.proofs.Order.{int_lt_or_le}
 use Rattle.road_types.specs.declared.road.Slab.{Slab}
@@ -81,14 +81,15 @@ pub ends_outside : (slabs : List Slab) (top low high : ℤ)
     → ((k : ℕ) → ((top +ℤ leading_thickness slabs k) ≤ℤ low) ⊎ (high ≤ℤ (top +ℤ leading_thickness slabs k))) → EndsOutside slabs top low high
 unfolding thickness_of
 ends_outside [] top low high h = tt
-ends_outside (slab ∷ slabs) top low high h =
-    (⊎_elim (λ (l : (top +ℤ (slab.thick +ℤ pos 0)) ≤ℤ low). inl (omega (arith, ints))) (λ (l : high ≤ℤ (top +ℤ (slab.thick +ℤ pos 0))). inr (omega (arith, ints))) (h 1),
-      ends_outside slabs (top +ℤ slab.thick) low high
+ends_outside (slab ∷ slabs) top low high h = (
+  ⊎_elim (λ (l : (top +ℤ (slab.thick +ℤ pos 0)) ≤ℤ low). inl (omega (arith, ints))) (λ (l : high ≤ℤ (top +ℤ (slab.thick +ℤ pos 0))). inr (omega (arith, ints))) (h 1),
+  ends_outside slabs (top +ℤ slab.thick) low high
       (λ k.
       ⊎_elim
       (λ (l : (top +ℤ (slab.thick +ℤ leading_thickness slabs k)) ≤ℤ low). inl (omega (arith, ints)))
       (λ (l : high ≤ℤ (top +ℤ (slab.thick +ℤ leading_thickness slabs k))). inr (omega (arith, ints)))
-      (h (suc k))))
+      (h (suc k))),
+)
 
 -- some sum of leading slabs lies strictly between low and high, or none
 abbrev pub HasEndInside : List Slab → ℤ → ℤ → ℤ → Type 0

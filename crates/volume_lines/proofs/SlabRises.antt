@@ -1,11 +1,11 @@
 -- How the volume of slabs rises with the depth, between slopes that bound the areas of the slabs in between.
 -- Depths are over a denominator; slabs and the range begin at depths in whole mm.
-use Rattle.std.proofs.Common.{◌≡◌, List, [], ◌∷◌, arith, ap, sym, subst, ◌∙◌, refl, ⊎_elim, ◌⊎◌, inl, inr}
-use Rattle.std.specs.Prelude.{ℤ, pos, neg_ℤ, ◌+ℤ◌, ◌-ℤ◌, ◌*ℤ◌, ◌≤ℤ◌, ◌<ℤ◌}
+use Rattle.std.proofs.Common.{◌≡◌, List, [], ◌∷◌, arith, ap, subst, refl, ⊎_elim}
+use Rattle.std.specs.Prelude.{ℤ, pos, ◌+ℤ◌, ◌-ℤ◌, ◌*ℤ◌, ◌≤ℤ◌, ◌<ℤ◌}
 use Rattle.std.specs.Int.{int_min, int_max}
 use Rattle.std.proofs.lemmas.Int.{ints, clamps}
 use Rattle.algebra.proofs.Products.{mults, int_add_mul, int_mul_sub, int_zero_mul}
-use Rattle.algebra.proofs.Order.{int_mul_le_left, int_mul_le_right, int_mul_nonneg, int_lt_or_le, int_lt_of_mul_right, int_min_of_le, int_min_of_ge, int_max_of_le, int_max_of_ge}
+use Rattle.algebra.proofs.Order.{int_mul_le_right, int_mul_nonneg, int_lt_or_le, int_lt_of_mul_right, int_min_of_le, int_max_of_le}
 use Rattle.road_types.specs.declared.road.Slab.{Slab}
 use Rattle.road_types.specs.Volumes.{volume_to, thickness_of}
 
@@ -97,17 +97,17 @@ volume_rises (slab ∷ slabs) top low high lo hi den a b d t s p q r x y =
     let a2 = int_max (a -ℤ h) (pos 0) in
     let b2 = int_max (b -ℤ h) (pos 0) in
     let rest : IsRise lo hi (b2 -ℤ a2) (volume_to slabs b2 den -ℤ volume_to slabs a2 den) =
-        ⊎_elim
-        (λ (l : h <ℤ b).
-        volume_rises slabs (top +ℤ slab.thick) low high lo hi den a2 b2 d t.1 s.1
-        (omega (arith, ints, clamps)) (omega (arith, ints, clamps)) (omega (arith, ints, clamps, all))
-        (omega (arith, ints, clamps, next)) (omega (arith, ints, clamps, next)))
-        (λ (l : b ≤ℤ h).
-        let none_a : a2 ≡ pos 0 = omega (arith, ints, clamps) in
-        let none_b : b2 ≡ pos 0 = omega (arith, ints, clamps) in
-        rise_of_none lo hi (b2 -ℤ a2) (volume_to slabs b2 den -ℤ volume_to slabs a2 den) (omega (arith, ints))
-        (omega (arith, ints, ap (λ v. volume_to slabs v den) none_a, ap (λ v. volume_to slabs v den) none_b)))
-        (int_lt_or_le h b) in
+    ⊎_elim
+    (λ (l : h <ℤ b).
+    volume_rises slabs (top +ℤ slab.thick) low high lo hi den a2 b2 d t.1 s.1
+    (omega (arith, ints, clamps)) (omega (arith, ints, clamps)) (omega (arith, ints, clamps, all))
+    (omega (arith, ints, clamps, next)) (omega (arith, ints, clamps, next)))
+    (λ (l : b ≤ℤ h).
+    let none_a : a2 ≡ pos 0 = omega (arith, ints, clamps) in
+    let none_b : b2 ≡ pos 0 = omega (arith, ints, clamps) in
+    rise_of_none lo hi (b2 -ℤ a2) (volume_to slabs b2 den -ℤ volume_to slabs a2 den) (omega (arith, ints))
+    (omega (arith, ints, ap (λ v. volume_to slabs v den) none_a, ap (λ v. volume_to slabs v den) none_b)))
+    (int_lt_or_le h b) in
     rise_as lo hi
     ((int_min b h -ℤ int_min a h) +ℤ (b2 -ℤ a2)) (b -ℤ a)
     ((slab.area *ℤ int_min b h -ℤ slab.area *ℤ int_min a h) +ℤ (volume_to slabs b2 den -ℤ volume_to slabs a2 den))

@@ -1,12 +1,11 @@
 -- The slopes that lie between two breakpoints bound the areas of all slabs that lie between them, and without a breakpoint
 -- strictly inside there is one.
-use Rattle.std.proofs.Common.{◌≡◌, ℕ, zero, suc, List, [], ◌∷◌, ◌++◌, length, take, Bool, true, false, cond, arith, ap, sym, subst, ◌∙◌, refl, ⊎_elim, ◌⊎◌, inl, inr, ◌+◌, ◌≤◌}
-use Rattle.std.specs.Prelude.{ℤ, pos, neg_ℤ, ◌+ℤ◌, ◌-ℤ◌, ◌*ℤ◌, ◌≤ℤ◌, ◌<ℤ◌, int_le, ◌&&◌, fold}
+use Rattle.std.proofs.Common.{◌≡◌, ℕ, zero, suc, List, [], ◌∷◌, ◌++◌, Bool, true, false, cond, arith, ap, subst, ◌∙◌, ⊎_elim, ◌⊎◌, inl, inr}
+use Rattle.std.specs.Prelude.{ℤ, pos, ◌+ℤ◌, ◌≤ℤ◌, int_le, ◌&&◌, fold}
 use Rattle.std.specs.Int.{int_min, int_max}
 use Rattle.std.specs.List.{All}
 use Rattle.std.proofs.lemmas.Int.{ints, clamps}
-use Rattle.std.proofs.lemmas.List.Elements.{All-nil, All-cons, All-head, All-tail, All-append, All-weaker}
-use Rattle.algebra.proofs.Order.{int_lt_or_le, int_min_le_left, int_min_le_right, int_le_max_left, int_le_max_right}
+use Rattle.std.proofs.lemmas.List.Elements.{All-nil, All-cons, All-head, All-tail, All-weaker}
 use Rattle.road_types.specs.declared.road.Slab.{Slab}
 use Rattle.road_types.specs.Volumes.{thickness_of}
 use Rattle.road_types.specs.Breakpoints.{leading_thickness}
@@ -101,10 +100,11 @@ unfolding areas_between
 slopes_within [] top low high lo hi l h a = tt
 slopes_within (slab ∷ slabs) top low high lo hi l h a =
     let bottom = top +ℤ slab.thick in
-    let rest = areas_between slabs bottom low high in
-    (λ above below.
-      wholly_between low high top bottom slab.area rest (IsSlopeWithin lo hi)
-      (⊎_elim (λ (x : low ≤ℤ top). x) (λ (x : bottom ≤ℤ low). absurd (omega (arith, ints))) l.0)
-      (⊎_elim (λ (x : high ≤ℤ top). absurd (omega (arith, ints))) (λ (x : bottom ≤ℤ high). x) h.0)
-      a,
-      slopes_within slabs bottom low high lo hi l.1 h.1 (rest_between (int_le low top && int_le bottom high) slab.area rest (IsSlopeWithin lo hi) a))
+    let rest = areas_between slabs bottom low high in (
+      λ above below.
+          wholly_between low high top bottom slab.area rest (IsSlopeWithin lo hi)
+          (⊎_elim (λ (x : low ≤ℤ top). x) (λ (x : bottom ≤ℤ low). absurd (omega (arith, ints))) l.0)
+          (⊎_elim (λ (x : high ≤ℤ top). absurd (omega (arith, ints))) (λ (x : bottom ≤ℤ high). x) h.0)
+          a,
+      slopes_within slabs bottom low high lo hi l.1 h.1 (rest_between (int_le low top && int_le bottom high) slab.area rest (IsSlopeWithin lo hi) a),
+    )

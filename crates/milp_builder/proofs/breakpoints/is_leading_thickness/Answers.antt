@@ -1,11 +1,11 @@
-use Rattle.std.proofs.Common.{◌+◌, ℕ, arith, ◌≡◌, below_more, sym, ap, ◌∙◌, to_z, of_z}
-use Rattle.std.specs.Prelude.{ℤ, pos}
+use Rattle.std.proofs.Common.{arith, ◌≡◌, below_more, sym, ap, ◌∙◌, to_z, of_z}
+use Rattle.std.specs.Prelude.{pos}
 use Rattle.std.proofs.lemmas.Int.{ints, to_z-of_z}
 use Rattle.std.proofs.Math.Facts.{of_z-to_z}
 use Rattle.std.specs.Int.{w128}
 use Rattle.road_types.specs.Breakpoints.{leading_thickness}
 use Rattle.road_types.specs.declared.road.Slab.{Slab}
-use Rattle.milp_builder.proofs.LeadingSlabs.{solid_at, leading_none, leading_more, leading_all}
+use Rattle.milp_builder.proofs.LeadingSlabs.{solid_at, leading_none, leading_more}
 use Rattle.milp_builder.proofs.breakpoints.is_leading_thickness.Goals as goal
 
 other : Slab

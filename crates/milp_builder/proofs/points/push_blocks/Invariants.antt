@@ -1,4 +1,4 @@
-use Rattle.std.proofs.Common.{◌≡◌, ◌++◌, ◌+◌, ◌-◌, map}
+use Rattle.std.proofs.Common.{◌≡◌, ◌++◌, map}
 use Rattle.algebra.specs.Lists.{flat_to}
 use Rattle.road_types.specs.Columns.{block_columns}
 use Rattle.road_points.specs.PlanPoints.{value_in}

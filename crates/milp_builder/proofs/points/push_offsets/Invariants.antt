@@ -1,4 +1,4 @@
-use Rattle.std.proofs.Common.{◌≡◌, ◌++◌, ◌+◌, ◌-◌, map}
+use Rattle.std.proofs.Common.{◌≡◌, ◌++◌, map}
 use Rattle.algebra.specs.Lists.{list_to}
 use Rattle.road_types.specs.declared.column.Column.TheVariants.{Offset}
 use Rattle.road_points.specs.PlanPoints.{value_in}

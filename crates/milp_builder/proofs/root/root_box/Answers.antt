@@ -1,4 +1,4 @@
-use Rattle.std.specs.Prelude.{◌≡◌, IfOk}
+use Rattle.std.specs.Prelude.{◌≡◌}
 use Rattle.std.proofs.Common.{sym, subst}
 use Rattle.std.proofs.lemmas.Result.{IfOk-weaker}
 use Rattle.road_types.proofs.AcceptedRoad.{IsAccepted-from_fault}

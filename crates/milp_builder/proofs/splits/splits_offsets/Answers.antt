@@ -2,7 +2,7 @@ use Rattle.std.proofs.Common.{rules, FitsSigned}
 use Rattle.std.specs.Int.{w64}
 use Rattle.std.proofs.lemmas.Int.{to_z-of_z}
 use Rattle.milp_builder.proofs.RootBox.{tables_at}
-use Rattle.milp_builder.proofs.Cover.{splits_from_tests, number_from_test}
+use Rattle.milp_builder.proofs.Cover.{splits_from_tests}
 use Rattle.road_types.specs.Road.{section_count}
 use Rattle.road_types.specs.Numbered.{IsNumber}
 use Rattle.milp_builder.proofs.splits.splits_offsets.Goals as goal
