@@ -1,0 +1,5 @@
+pub mod LeadingSlabs
+pub mod RootBox
+pub mod Cover
+pub mod BoxLaws
+pub mod PointLemmas

@@ -1,0 +1,4 @@
+pub mod Boxes
+pub mod Parts
+pub mod BoxPrograms
+pub mod FoundPlans
