@@ -3,3 +3,4 @@ pub mod RootBox
 pub mod Cover
 pub mod BoxLaws
 pub mod PointLemmas
+pub mod SmallVolumes
