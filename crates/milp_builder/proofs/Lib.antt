@@ -4,3 +4,4 @@ pub mod Cover
 pub mod BoxLaws
 pub mod PointLemmas
 pub mod SmallVolumes
+pub mod ShownLemmas

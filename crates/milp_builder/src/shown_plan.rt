@@ -1,9 +1,11 @@
 // The plan that a point shows.
-ghost use Rattle.std.specs.Prelude.{◌≡◌, IfOk, length};
+ghost use Rattle.std.specs.Prelude.{◌≡◌, ◌≤◌, if◌then◌else◌, IfOk, length, pos};
+ghost use Rattle.std.specs.Ordering.{int_eq};
 ghost use Rattle.algebra.specs.Lists.{list_to};
 ghost use Rattle.road_types.specs.WellFormed.{IsWellFormed};
 ghost use Rattle.road_types.specs.Road.{segment_count, block_count};
 ghost use Rattle.road_types.specs.Columns.{columns_of};
+ghost use Rattle.road_types.specs.declared.column.Column.TheVariants.{Opened};
 ghost use Rattle.road_points.specs.Shown.{shown};
 ghost use Rattle.road_points.specs.ShownPlan.{table_to, piece_at, opening_at, plan_at};
 ghost use Rattle.milp_builder.specs.inside.Amounts.{column_in};
@@ -31,12 +33,13 @@ pub fn shown_plan(alloc: Global, road: &Road, den: i128, point: &[i128]) -> Resu
 {
     let sections = road.sections.len();
     let hops = road.hops.len();
+    let accesses = road.roads.len();
     let pieces = shown_pieces(alloc, road, point)?;
     let cut = shown_table(alloc, road, point, Amount::Cut, sections)?;
     let fill = shown_table(alloc, road, point, Amount::Fill, sections)?;
     let right = shown_table(alloc, road, point, Amount::Right, hops)?;
     let left = shown_table(alloc, road, point, Amount::Left, hops)?;
-    let roads = shown_table(alloc, road, point, Amount::Access, road.roads.len())?;
+    let roads = shown_table(alloc, road, point, Amount::Access, accesses)?;
     let opens = shown_openings(alloc, road, point)?;
     Ok(Plan {
         den,
@@ -154,19 +157,23 @@ fn shown_opening(road: &Road, point: &[i128], block: usize) -> u8
     requires columns { length point.now ≡ length (columns_of road.now) }
     ensures { result ≡ opening_at road.now (shown road.now point.now) block }
 {
-    let mut closed: u8 = 0;
+    let mut closed = 0;
     for before in 0..road.stages {
-        if shown(
-            road,
-            point,
-            Column::Opened {
-                block,
-                stage: before + 1,
-            },
-        ) == 0
-        {
-            closed += 1;
-        }
+        closed += closed_at(road, point, block, before + 1);
     }
     closed + 1
+}
+
+/// 1 where the point shows the block as closed at the stage, and else 0.
+fn closed_at(road: &Road, point: &[i128], block: usize, stage: usize) -> u8
+    requires well_formed { IsWellFormed road.now }
+    requires columns { length point.now ≡ length (columns_of road.now) }
+    ensures value { result ≡ (if int_eq (shown road.now point.now (Opened block stage)) (pos 0) then 1 else 0) }
+    ensures few { result ≤ 1 }
+{
+    if shown(road, point, Column::Opened { block, stage }) == 0 {
+        1
+    } else {
+        0
+    }
 }
