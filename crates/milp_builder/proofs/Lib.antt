@@ -3,3 +3,5 @@ pub mod RootBox
 pub mod Cover
 pub mod BoxLaws
 pub mod PointLemmas
+pub mod SmallVolumes
+pub mod ShownLemmas

@@ -2,3 +2,4 @@ pub mod Boxes
 pub mod Parts
 pub mod BoxPrograms
 pub mod FoundPlans
+pub mod inside

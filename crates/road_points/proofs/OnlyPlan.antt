@@ -42,6 +42,19 @@ same_pieces p q a b c =
     ∙ ap (λ x. let r : Piece = record { a = q.a; b = x; c = p.c } in r) b
     ∙ ap (λ x. let r : Piece = record { a = q.a; b = q.b; c = x } in r) c
 
+-- plans with the same parts are one
+pub same_parts : (p q : Plan) → p.den ≡ q.den → p.pieces ≡ q.pieces → p.cut ≡ q.cut → p.fill ≡ q.fill → p.right ≡ q.right → p.left ≡ q.left → p.roads ≡ q.roads
+    → p.opens ≡ q.opens → p ≡ q
+same_parts p q d0 d1 d2 d3 d4 d5 d6 d7 =
+    ap (λ x. record p { den = x }) d0
+    ∙ ap (λ x. record p { den = q.den; pieces = x }) d1
+    ∙ ap (λ x. record p { den = q.den; pieces = q.pieces; cut = x }) d2
+    ∙ ap (λ x. record p { den = q.den; pieces = q.pieces; cut = q.cut; fill = x }) d3
+    ∙ ap (λ x. record p { den = q.den; pieces = q.pieces; cut = q.cut; fill = q.fill; right = x }) d4
+    ∙ ap (λ x. record p { den = q.den; pieces = q.pieces; cut = q.cut; fill = q.fill; right = q.right; left = x }) d5
+    ∙ ap (λ x. record p { den = q.den; pieces = q.pieces; cut = q.cut; fill = q.fill; right = q.right; left = q.left; roads = x }) d6
+    ∙ ap (λ x. record p { den = q.den; pieces = q.pieces; cut = q.cut; fill = q.fill; right = q.right; left = q.left; roads = q.roads; opens = x }) d7
+
 module _ (road : Road) (well : IsWellFormed road) (p q : Plan) (admissible_p : IsAdmissible road p) (admissible_q : IsAdmissible road q)
     (den : p.den ≡ q.den) (point : point_of road p ≡ point_of road q) where
   abbrev f : Column → ℤ
@@ -101,15 +114,4 @@ module _ (road : Road) (well : IsWellFormed road) (p q : Plan) (admissible_p : I
       let left = same_tables road.stages (section_count road - 1) p.left q.left a.left b.left (λ t i. sym (amounts_p.left i t) ∙ amounts_q.left i t) in
       let roads = same_tables road.stages (access_count road) p.roads q.roads a.roads b.roads (λ t i. sym (amounts_p.access i t) ∙ amounts_q.access i t) in
       let opens = same_by_number 0 p.opens q.opens (a.opens ∙ sym b.opens) (λ k n. same_opening k (number_along k (length p.opens) (block_count road) a.opens n)) in
-      by_parts den pieces cut fill right left roads opens
-    where
-      by_parts : p.den ≡ q.den → p.pieces ≡ q.pieces → p.cut ≡ q.cut → p.fill ≡ q.fill → p.right ≡ q.right → p.left ≡ q.left → p.roads ≡ q.roads → p.opens ≡ q.opens → p ≡ q
-      by_parts d0 d1 d2 d3 d4 d5 d6 d7 =
-          ap (λ x. record p { den = x }) d0
-          ∙ ap (λ x. record p { den = q.den; pieces = x }) d1
-          ∙ ap (λ x. record p { den = q.den; pieces = q.pieces; cut = x }) d2
-          ∙ ap (λ x. record p { den = q.den; pieces = q.pieces; cut = q.cut; fill = x }) d3
-          ∙ ap (λ x. record p { den = q.den; pieces = q.pieces; cut = q.cut; fill = q.fill; right = x }) d4
-          ∙ ap (λ x. record p { den = q.den; pieces = q.pieces; cut = q.cut; fill = q.fill; right = q.right; left = x }) d5
-          ∙ ap (λ x. record p { den = q.den; pieces = q.pieces; cut = q.cut; fill = q.fill; right = q.right; left = q.left; roads = x }) d6
-          ∙ ap (λ x. record p { den = q.den; pieces = q.pieces; cut = q.cut; fill = q.fill; right = q.right; left = q.left; roads = q.roads; opens = x }) d7
+      same_parts p q den pieces cut fill right left roads opens
