@@ -3,3 +3,4 @@ pub mod NetRises
 pub mod Slopes
 pub mod OneSlope
 pub mod LinesLaws
+pub mod HeavyLines

@@ -45,7 +45,7 @@ each_area (slab ∷ slabs) h =
 pub thick_table : (slabs : List Slab) → IsSlabTable slabs → AreThick slabs
 thick_table slabs h = each_thick slabs h.solid
 
-area_table : (slabs : List Slab) → IsSlabTable slabs → HaveAreas slabs
+pub area_table : (slabs : List Slab) → IsSlabTable slabs → HaveAreas slabs
 area_table slabs h = each_area slabs h.solid
 
 -- ---- lines over plain numbers
@@ -116,14 +116,14 @@ module _ (s : Section) (tables : HasSlabTables s) where
       (λ (e : x ≡ neg_ℤ (leading_thickness s.cut b.0)). omega (arith, ints, e, leading_to_thickness s.cut b.0 thick_cut))
       b.1
 
-  between_fill : (x : ℤ) → IsBreakpoint s x → IsBetweenSlabs s.fill (pos 0) x
+  pub between_fill : (x : ℤ) → IsBreakpoint s x → IsBetweenSlabs s.fill (pos 0) x
   between_fill x b =
       ⊎_elim
       (λ (e : x ≡ leading_thickness s.fill b.0). leading_between s.fill (pos 0) x b.0 thick_fill (omega (arith, ints, e)))
       (λ (e : x ≡ neg_ℤ (leading_thickness s.cut b.0)). above_slabs s.fill (pos 0) x thick_fill (omega (arith, ints, e, leading_from_zero s.cut b.0 thick_cut)))
       b.1
 
-  between_cut : (x : ℤ) → IsBreakpoint s x → IsBetweenSlabs s.cut (pos 0) (neg_ℤ x)
+  pub between_cut : (x : ℤ) → IsBreakpoint s x → IsBetweenSlabs s.cut (pos 0) (neg_ℤ x)
   between_cut x b =
       ⊎_elim
       (λ (e : x ≡ leading_thickness s.fill b.0). above_slabs s.cut (pos 0) (neg_ℤ x) thick_cut (omega (arith, ints, e, leading_from_zero s.fill b.0 thick_fill)))

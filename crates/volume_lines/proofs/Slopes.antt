@@ -54,7 +54,7 @@ pub above_slabs : (slabs : List Slab) (top x : ℤ) → AreThick slabs → x ≤
 above_slabs [] top x t h = tt
 above_slabs (slab ∷ slabs) top x t h = (inl h, above_slabs slabs (top +ℤ slab.thick) x t.1 (omega (arith, ints, t.0)))
 
-thickness_from_zero : (slabs : List Slab) → AreThick slabs → pos 0 ≤ℤ thickness_of slabs
+pub thickness_from_zero : (slabs : List Slab) → AreThick slabs → pos 0 ≤ℤ thickness_of slabs
 unfolding thickness_of
 thickness_from_zero [] t = omega (arith, ints)
 thickness_from_zero (slab ∷ slabs) t = let h = thickness_from_zero slabs t.1 in omega (arith, ints, t.0)
