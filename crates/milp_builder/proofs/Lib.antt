@@ -5,3 +5,5 @@ pub mod BoxLaws
 pub mod PointLemmas
 pub mod SmallVolumes
 pub mod ShownLemmas
+pub mod BoxWeights
+pub mod BoxLimits

@@ -21,11 +21,11 @@ use Rattle.milp_builder.proofs.LeadingSlabs.{thickness_pos, leading_all}
 
 -- ---- the ranges of the root box
 
-root_openings : (road : Road) (k : ℕ) → IsNumber k (block_count road) → opening_range (root_box road) k ≡ (2, road.stages + 1)
+pub root_openings : (road : Road) (k : ℕ) → IsNumber k (block_count road) → opening_range (root_box road) k ≡ (2, road.stages + 1)
 root_openings road zero n = absurd (omega (arith, n.from_one))
 root_openings road (suc k) n = get_or-map (λ block. whole_opening road) road.blocks k no_block (0, 0) (omega (arith, n.at_most))
 
-root_heights : (road : Road) (i : ℕ) → IsNumber i (section_count road) → height_range (root_box road).heights i ≡ whole_range (section road i)
+pub root_heights : (road : Road) (i : ℕ) → IsNumber i (section_count road) → height_range (root_box road).heights i ≡ whole_range (section road i)
 root_heights road zero n = absurd (omega (arith, n.from_one))
 root_heights road (suc i) n = get_or-map whole_range road.sections i no_section (pos 0, pos 0) (omega (arith, n.at_most))
 

@@ -1,6 +1,6 @@
 -- The lines of a section over any range are no heavier than its heaviest lines: slopes lie between 0 and the widest area, ends
 -- within the deepest slabs, and right sides within twice the product of the two.
-use Rattle.std.proofs.Common.{◌≡◌, ℕ, zero, suc, ◌≤◌, List, [], ◌∷◌, ◌++◌, map, Bool, true, false, cond, arith, ap, sym, subst, ◌∙◌, refl, ⊎_elim, ◌⊎◌, inl, inr}
+use Rattle.std.proofs.Common.{◌≡◌, ℕ, zero, suc, max, ◌≤◌, List, [], ◌∷◌, ◌++◌, map, Bool, true, false, cond, arith, ap, sym, subst, ◌∙◌, refl, ⊎_elim, ◌⊎◌, inl, inr}
 use Rattle.std.specs.Prelude.{ℤ, pos, neg_ℤ, ◌+ℤ◌, ◌-ℤ◌, ◌*ℤ◌, ◌≤ℤ◌, ◌<ℤ◌, int_le, ◌&&◌, fold, unsigned_abs}
 use Rattle.std.specs.Int.{int_min, int_max}
 use Rattle.std.specs.List.{All}
@@ -259,3 +259,8 @@ module _ (s : Section) (tables : HasSlabTables s) where
           below_low = turned_width area (least_area slopes) range.1 (volume_at s range.1) (deepest s) least high at_high;
           above_high = right_width area (greatest_area slopes) range.1 (volume_at s range.1) (deepest s) greatest high at_high;
         }
+
+-- the deepest slabs are the thicker side
+pub deepest_from : (s : Section) → HasSlabTables s → unsigned_abs (deepest s) ≤ max (unsigned_abs (neg_ℤ (thickness_of s.cut))) (unsigned_abs (thickness_of s.fill))
+deepest_from s tables =
+    omega (arith, ints, clamps, thickness_from_zero s.cut (thick_table s.cut tables.cut), thickness_from_zero s.fill (thick_table s.fill tables.fill))
