@@ -29,7 +29,8 @@ use Rattle.road_types.proofs.ColumnPlaces.{length-columns_of}
 use Rattle.road_types.proofs.FormCounts.{length-forms_of}
 use Rattle.form_rows.proofs.RisingLemmas.{RisesAll, height_row_rises, grade_row_rises, offset_row_rises, next_height_row_rises, next_grade_row_rises, volume_row_rises, balance_row_rises, pit_row_rises, transit_row_rises, cut_stop_row_rises, fill_stop_row_rises, order_row_rises}
 use Rattle.road_points.proofs.FormGroups.{SectionFormsAre, HaulFormsAre, section_forms_all, haul_forms_all}
-use Rattle.road_points.proofs.RoadKinds.{IsKindOf, all_kinds}
+use Rattle.road_points.specs.ColumnKinds.{IsKindOf}
+use Rattle.road_points.proofs.RoadKinds.{all_kinds}
 use Rattle.milp_builder.specs.Boxes.{IsBoxOf}
 use Rattle.milp_builder.specs.BoxPrograms.{box_program}
 use Rattle.milp_builder.specs.declared.boxes.BoxRange.{BoxRange}
@@ -114,6 +115,7 @@ module _ (road : Road) (well : IsWellFormed road) where
     where
       chosen : Bool → Bool → ℤ × ℤ
       chosen a b = if a then (pos 0, pos 0) else if b then (pos 1, pos 1) else (pos 0, pos 1)
+
       by_tests : (a b : Bool) → (chosen a b).0 ≤ℤ (chosen a b).1
       by_tests true b = omega (arith, ints)
       by_tests false true = omega (arith, ints)

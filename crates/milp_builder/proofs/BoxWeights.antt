@@ -28,7 +28,8 @@ use Rattle.road_types.specs.declared.column.Column.{Column}
 use Rattle.road_types.specs.declared.column.Column.TheVariants.{A, B, C, Offset, Cut, Fill, Right, Left, Access, Opened}
 use Rattle.volume_lines.proofs.HeavyLines.{IsNoHeavier, lines_no_heavier, breakpoint_depth, deepest_from}
 use Rattle.road_points.proofs.FormsHold.{tables_of}
-use Rattle.road_points.proofs.RoadKinds.{IsKindOf, all_kinds}
+use Rattle.road_points.specs.ColumnKinds.{IsKindOf}
+use Rattle.road_points.proofs.RoadKinds.{all_kinds}
 use Rattle.milp_builder.specs.declared.boxes.BoxRange.{BoxRange}
 use Rattle.milp_builder.proofs.RootBox.{root_heights, root_openings}
 
@@ -46,6 +47,7 @@ load_of_term j (Some m) c rest = by_test (int_eq c (pos 0)) refl
     none : (b : Bool) → c ≡ pos 0 → unsigned_abs (if b then c else pos 0) ≡ 0
     none true e = omega (arith, ints)
     none false e = omega (arith, ints)
+
     by_test : (b : Bool) → int_eq c (pos 0) ≡ b → load_of_terms j (cond b [] (record { column = m; value = c } ∷ []) ++ rest) ≡ unsigned_abs (if m == j then c else pos 0) + load_of_terms j rest
     by_test true e = let z : c ≡ pos 0 = grind (arith, ints) in omega (arith, none (m == j) z)
     by_test false e = refl
@@ -124,10 +126,13 @@ module _ (road : Road) where
   }
 
   lines_lighter : (i : ℕ) (l h : Lines) → IsNoHeavier l h → AreLighter road (lines_forms road i l) (lines_forms road i h)
-  lines_lighter i l h n =
-      (above_lighter i l.least h.least l.above_low h.above_low n.least n.above_low,
-        (below_lighter i l.greatest h.greatest l.below_high h.below_high n.greatest n.below_high,
-          (below_lighter i l.least h.least l.below_low h.below_low n.least n.below_low, (above_lighter i l.greatest h.greatest l.above_high h.above_high n.greatest n.above_high, tt))))
+  lines_lighter i l h n = (
+    above_lighter i l.least h.least l.above_low h.above_low n.least n.above_low,
+    (
+      below_lighter i l.greatest h.greatest l.below_high h.below_high n.greatest n.below_high,
+      (below_lighter i l.least h.least l.below_low h.below_low n.least n.below_low, (above_lighter i l.greatest h.greatest l.above_high h.above_high n.greatest n.above_high, tt)),
+    ),
+  )
 
   forms_lighter : (lines heavy : ℕ → Lines) → ((i : ℕ) → IsNumber i (section_count road) → IsNoHeavier (lines i) (heavy i)) → AreLighter road (forms_of road lines) (forms_of road heavy)
   forms_lighter lines heavy each =
@@ -203,9 +208,9 @@ module _ (road : Road) (well : IsWellFormed road) (heights : List (ℤ × ℤ)) 
       let mine = get_or-map (bounds_of road heights openings) columns k (A 0) (pos 0, pos 0) l in
       let whole = get_or-map (bounds_of road (whole_ranges road) (whole_openings road)) columns k (A 0) (pos 0, pos 0) l in
       let reaches : reach (bounds_at light (suc k)) ≤ reach (bounds_at heavy (suc k)) =
-          subst (λ (b : ℤ × ℤ). reach b ≤ reach (bounds_at heavy (suc k))) (sym mine)
-          (subst (λ (b : ℤ × ℤ). reach (bounds_of road heights openings (get_or columns k (A 0))) ≤ reach b) (sym whole)
-          (all_kinds road (λ c. reach (bounds_of road heights openings c) ≤ reach (bounds_of road (whole_ranges road) (whole_openings road) c)) kind_reach k (A 0) l)) in
+      subst (λ (b : ℤ × ℤ). reach b ≤ reach (bounds_at heavy (suc k))) (sym mine)
+      (subst (λ (b : ℤ × ℤ). reach (bounds_of road heights openings (get_or columns k (A 0))) ≤ reach b) (sym whole)
+      (all_kinds road (λ c. reach (bounds_of road heights openings c) ≤ reach (bounds_of road (whole_ranges road) (whole_openings road) c)) kind_reach k (A 0) l)) in
       let loads = loads_of road (suc k) (forms_of road (lines_in road heights)) (forms_of road (λ i. heaviest_lines (section road i))) lighter_forms in
       let sum : load_of_rows (suc k) light.rows + unsigned_abs (cost_at light (suc k)) ≤ load_of_rows (suc k) heavy.rows + unsigned_abs (cost_at heavy (suc k)) = omega arith in
       mul-le-mul sum reaches

@@ -1,5 +1,5 @@
 -- Steps of loops that append the values of kinds of column.
-use Rattle.std.proofs.Common.{◌≡◌, ℕ, zero, suc, ◌+◌, ◌-◌, ◌≤◌, List, [], ◌∷◌, ◌++◌, map, length, append_assoc, arith, ap, sym, ◌∙◌}
+use Rattle.std.proofs.Common.{refl, ◌≡◌, ℕ, zero, suc, ◌+◌, ◌-◌, ◌≤◌, List, [], ◌∷◌, ◌++◌, map, length, append_assoc, arith, ap, sym, ◌∙◌}
 use Rattle.std.specs.Prelude.{ℤ, pos}
 use Rattle.std.proofs.lemmas.List.{map-append, same_lists}
 use Rattle.algebra.specs.Lists.{list_to, flat_to}
@@ -102,3 +102,34 @@ point_is road v =
     let b = flat_to (block_columns road) (block_count road) in
     map-append v s (o ++ (t ++ b))
     ∙ ap (λ x. map v s ++ x) (map-append v o (t ++ b) ∙ ap (λ x. map v o ++ x) (map-append v t b))
+
+-- ---- lists of kinds
+
+pub list_more : {A : Type 0} (f : ℕ → A) (n : ℕ) → list_to f (n + 1) ≡ list_to f n ++ (f (n + 1) ∷ [])
+list_more f n = let e : n + 1 ≡ suc n = omega arith in ap (list_to f) e ∙ ap (λ k. list_to f n ++ (f k ∷ [])) (sym e)
+
+pub flat_more : {A : Type 0} (f : ℕ → List A) (n : ℕ) → flat_to f (n + 1) ≡ flat_to f n ++ f (n + 1)
+flat_more f n = let e : n + 1 ≡ suc n = omega arith in ap (flat_to f) e ∙ ap (λ k. flat_to f n ++ f k) (sym e)
+
+pub list_from_one : {A : Type 0} (f : ℕ → A) (n : ℕ) → 1 ≤ n → list_to f (n + 1 - 1) ≡ list_to f (n - 1) ++ (f n ∷ [])
+list_from_one f zero h = absurd (omega arith)
+list_from_one f (suc n) h =
+    let e : suc n + 1 - 1 ≡ suc n = omega arith in
+    let d : suc n - 1 ≡ n = omega arith in
+    ap (list_to f) e ∙ ap (λ k. list_to f k ++ (f (suc n) ∷ [])) (sym d)
+
+-- a loop's step: what was appended so far, and one more
+pub list_step : {A : Type 0} (f : ℕ → A) (n : ℕ) (init now next : List A) → now ≡ init ++ list_to f n → next ≡ now ++ (f (n + 1) ∷ []) → next ≡ init ++ list_to f (n + 1)
+list_step f n init now next e h = append_step init (list_to f n) (f (n + 1) ∷ []) now next e h ∙ ap (λ x. init ++ x) (sym (list_more f n))
+
+pub flat_step : {A : Type 0} (f : ℕ → List A) (n : ℕ) (init now next : List A) → now ≡ init ++ flat_to f n → next ≡ now ++ f (n + 1) → next ≡ init ++ flat_to f (n + 1)
+flat_step f n init now next e h = append_step init (flat_to f n) (f (n + 1)) now next e h ∙ ap (λ x. init ++ x) (sym (flat_more f n))
+
+pub list_step_from_one : {A : Type 0} (f : ℕ → A) (n : ℕ) (init now next : List A) → 1 ≤ n → now ≡ init ++ list_to f (n - 1) → next ≡ now ++ (f n ∷ []) → next ≡ init ++ list_to f (n + 1 - 1)
+list_step_from_one f n init now next low e h = append_step init (list_to f (n - 1)) (f n ∷ []) now next e h ∙ ap (λ x. init ++ x) (sym (list_from_one f n low))
+
+-- the columns in four parts
+pub columns_are : (road : Road) → columns_of road
+    ≡ flat_to segment_columns (segment_count road) ++ (list_to (λ i. Offset i) (section_count road) ++ (flat_to (stage_columns road) road.stages ++ flat_to (block_columns road) (block_count road)))
+unfolding columns_of
+columns_are road = refl

@@ -1,8 +1,11 @@
 // Boxes of plans and the mixed-integer program of a box: what a search splits, bounds and solves.
 #![tactic(auto)]
 
+mod amounts;
+mod bounds;
 mod boxes;
 mod breakpoints;
+mod kinds;
 mod plans;
 mod points;
 mod root;

@@ -10,20 +10,11 @@ ghost use Rattle.road_points.specs.Shown.{shown};
 ghost use Rattle.road_points.specs.ShownPlan.{table_to, piece_at, opening_at, plan_at};
 ghost use Rattle.milp_builder.specs.inside.Amounts.{column_in};
 
+use crate::amounts::{Amount, column_in};
 use crate::shown::shown;
 use plan_rules::{Piece, Plan};
 use road_types::{Column, Listed, Road};
 use std::alloc::{AllocError, Global};
-
-/// What is moved in a stage, in rows of numbers.
-#[derive(Clone, Copy)]
-pub enum Amount {
-    Cut,
-    Fill,
-    Right,
-    Left,
-    Access,
-}
 
 /// The plan over a denominator whose numbers the point shows.
 pub fn shown_plan(alloc: Global, road: &Road, den: i128, point: &[i128]) -> Result<Plan, AllocError>
@@ -115,28 +106,6 @@ fn shown_row(
         row.push(shown(road, point, column_in(amount, before + 1, stage)))?;
     }
     Ok(Listed::new(row))
-}
-
-/// The kind of column of an amount.
-fn column_in(amount: Amount, number: usize, stage: usize) -> Column
-    ensures { result ≡ column_in amount number stage }
-{
-    match amount {
-        Amount::Cut => Column::Cut {
-            section: number,
-            stage,
-        },
-        Amount::Fill => Column::Fill {
-            section: number,
-            stage,
-        },
-        Amount::Right => Column::Right { hop: number, stage },
-        Amount::Left => Column::Left { hop: number, stage },
-        Amount::Access => Column::Access {
-            road: number,
-            stage,
-        },
-    }
 }
 
 fn shown_openings(alloc: Global, road: &Road, point: &[i128]) -> Result<Listed<u8>, AllocError>

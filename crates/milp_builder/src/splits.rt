@@ -125,7 +125,7 @@ fn both(a: bool, b: bool) -> bool
 }
 
 /// The range of opening stages of a block.
-fn opening_range(range: &BoxRange, block: usize) -> (u8, u8)
+pub fn opening_range(range: &BoxRange, block: usize) -> (u8, u8)
     requires { IsNumber block (length range.now.opens) }
     ensures { result ≡ opening_range range.now block }
 {
@@ -133,7 +133,7 @@ fn opening_range(range: &BoxRange, block: usize) -> (u8, u8)
 }
 
 /// The range of offsets of a section, in mm.
-fn height_range(range: &BoxRange, section: usize) -> (i64, i64)
+pub fn height_range(range: &BoxRange, section: usize) -> (i64, i64)
     requires { IsNumber section (length range.now.heights) }
     ensures { result ≡ height_range range.now.heights section }
 {

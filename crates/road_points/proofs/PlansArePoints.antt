@@ -28,7 +28,8 @@ use Rattle.road_points.specs.Shown.{shown}
 use Rattle.road_points.proofs.Shows.{opened_by}
 use Rattle.road_points.proofs.FormGroups.{rows_from_groups}
 use Rattle.road_points.proofs.PlanFacts.{PlanFacts, facts_of_admissible}
-use Rattle.road_points.proofs.RoadKinds.{IsKindOf, all_kinds}
+use Rattle.road_points.specs.ColumnKinds.{IsKindOf}
+use Rattle.road_points.proofs.RoadKinds.{all_kinds}
 use Rattle.road_points.proofs.PointShows.{number_along, point_shows_pieces, point_shows_offsets, point_shows_amounts, point_shows_openings, opened_before, opened_from}
 use Rattle.road_points.proofs.FormsHold.{OffsetsInside, section_forms_hold, haul_forms_hold}
 use Rattle.road_points.proofs.PointCost.{sum_of_maps, cost_by_kinds}

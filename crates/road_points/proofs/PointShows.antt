@@ -16,7 +16,8 @@ use Rattle.plan_rules.specs.Plans.{no_piece, piece_of, amount, opening, IsTableO
 use Rattle.plan_rules.specs.Rules.{IsOpening}
 use Rattle.road_points.specs.PlanPoints.{value_in, point_of}
 use Rattle.road_points.specs.Shown.{shown_at, shown}
-use Rattle.road_points.proofs.RoadKinds.{IsKindOf, kinds_all, number_at, kind_of_number}
+use Rattle.road_points.specs.ColumnKinds.{IsKindOf}
+use Rattle.road_points.proofs.RoadKinds.{kinds_all, number_at, kind_of_number}
 use Rattle.road_points.proofs.Shows.{ShowsPieces, ShowsOffsets, ShowsAmounts, ShowsOpenings, opened_by}
 
 -- ---- numbers

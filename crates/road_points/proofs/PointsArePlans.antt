@@ -37,7 +37,8 @@ use Rattle.road_points.proofs.FormGroups.{SectionFormsHold, HaulFormsHold, secti
 use Rattle.road_points.proofs.Shows.{ShowsPieces, ShowsOffsets, ShowsAmounts, ShowsOpenings}
 use Rattle.road_points.proofs.RowValues.{grade_value, station_value, offset_value, next_height_value, next_grade_value, volume_value, balance_value, pit_value, transit_value, cut_stop_value, fill_stop_value, order_value}
 use Rattle.road_points.proofs.PlanFacts.{PlanFacts, admissible_of_facts}
-use Rattle.road_points.proofs.RoadKinds.{IsKindOf, all_kinds, kinds_all, number_at}
+use Rattle.road_points.specs.ColumnKinds.{IsKindOf}
+use Rattle.road_points.proofs.RoadKinds.{all_kinds, kinds_all, number_at}
 use Rattle.road_points.proofs.PointShows.{number_along, shown_none, opened_before, opened_from}
 use Rattle.road_points.proofs.FormsHold.{OffsetsInside, tables_of}
 use Rattle.road_points.proofs.PlansArePoints.{OpeningsInside}

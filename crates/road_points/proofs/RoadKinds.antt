@@ -11,20 +11,8 @@ use Rattle.road_types.specs.declared.road.Road.{Road}
 use Rattle.road_types.specs.declared.column.Column.{Column}
 use Rattle.road_types.specs.declared.column.Column.TheVariants.{A, B, C, Offset, Cut, Fill, Right, Left, Access, Opened}
 use Rattle.road_types.proofs.ColumnPlaces.{IsColumn-from_number, column_number-from_IsColumn}
+use Rattle.road_points.specs.ColumnKinds.{IsKindOf}
 use Rattle.road_points.proofs.FormGroups.{all_left, all_right, all_flat_to, flat_to_all, all_list_to, list_to_all, all_one, second_of}
-
--- the road has a column of this kind
-abbrev pub IsKindOf : Road → Column → Type 0
-IsKindOf road (A g) = IsNumber g (segment_count road)
-IsKindOf road (B g) = IsNumber g (segment_count road)
-IsKindOf road (C g) = IsNumber g (segment_count road)
-IsKindOf road (Offset i) = IsNumber i (section_count road)
-IsKindOf road (Cut i t) = IsNumber i (section_count road) × IsNumber t road.stages
-IsKindOf road (Fill i t) = IsNumber i (section_count road) × IsNumber t road.stages
-IsKindOf road (Right h t) = IsNumber h (hop_count road) × IsNumber t road.stages
-IsKindOf road (Left h t) = IsNumber h (hop_count road) × IsNumber t road.stages
-IsKindOf road (Access q t) = IsNumber q (access_count road) × IsNumber t road.stages
-IsKindOf road (Opened k t) = IsNumber k (block_count road) × ((2 ≤ t) × (t ≤ road.stages))
 
 -- ---- along the columns
 

@@ -1,3 +1,4 @@
+pub mod ColumnKinds
 pub mod PlanPoints
 pub mod Shown
 pub mod ShownPlan

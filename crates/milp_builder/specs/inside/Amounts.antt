@@ -2,8 +2,8 @@
 use Rattle.std.specs.Prelude.{ℕ}
 use Rattle.road_types.specs.declared.column.Column.{Column}
 use Rattle.road_types.specs.declared.column.Column.TheVariants as kind
-use Rattle.milp_builder.specs.declared.shown_plan.Amount.{Amount}
-use Rattle.milp_builder.specs.declared.shown_plan.Amount.TheVariants.{Cut, Fill, Right, Left, Access}
+use Rattle.milp_builder.specs.declared.amounts.Amount.{Amount}
+use Rattle.milp_builder.specs.declared.amounts.Amount.TheVariants.{Cut, Fill, Right, Left, Access}
 
 -- number i of stage t
 abbrev pub column_in : Amount → ℕ → ℕ → Column

@@ -1,0 +1,7 @@
+use Rattle.std.proofs.Common.{◌≡◌, ◌++◌, ◌+◌, ◌-◌}
+use Rattle.algebra.specs.Lists.{list_to}
+use Rattle.road_types.specs.declared.column.Column.TheVariants.{Opened}
+use Rattle.milp_builder.proofs.kinds.push_block.Given as goal
+
+abbrev pub invariant-loop-before : goal.invariant-loop-before
+invariant-loop-before l = l.kinds.items ≡ l.initial.kinds.items ++ list_to (λ before. Opened l.block (before + 1)) (l.before - 1)

@@ -1,0 +1,8 @@
+use Rattle.std.proofs.Common.{◌+◌, ◌-◌, ◌++◌, [], ◌∷◌, ap, sym, ◌∙◌, arith}
+use Rattle.road_types.specs.Columns.{block_columns}
+use Rattle.milp_builder.proofs.PointLemmas.{flat_step}
+use Rattle.milp_builder.proofs.kinds.push_blocks.Goals as goal
+
+pub loop-before-preserved : goal.loop-before-preserved
+loop-before-preserved c =
+    flat_step (block_columns c.args.road.now) c.loop-before.before c.args.kinds.now.items c.loop-before.kinds.items c.push_block.new.kinds.items c.loop-before.invariant c.in_ok-push_block.ensures
