@@ -7,3 +7,4 @@ pub mod SmallVolumes
 pub mod ShownLemmas
 pub mod BoxWeights
 pub mod BoxLimits
+pub mod ProgramLemmas
