@@ -1,7 +1,7 @@
 -- The laws of `total_to`. A function's values count from 1; a premise at each k may use that k lies in 1..n.
-use Rattle.std.proofs.Common.{◌≡◌, ℕ, zero, suc, ◌+◌, ◌*◌, ◌≤◌, ◌<◌, arith, ap, sym, ◌∙◌, refl, ⊎_elim}
+use Rattle.std.proofs.Common.{◌≡◌, ℕ, zero, suc, ◌+◌, ◌-◌, ◌*◌, ◌≤◌, ◌<◌, arith, ap, sym, ◌∙◌, refl, ⊎_elim}
 use Rattle.std.specs.Prelude.{ℤ, unsigned_abs}
-use Rattle.std.proofs.Math.Nat.{add-mul}
+use Rattle.std.proofs.Math.Nat.{add-mul, mul-add}
 use Rattle.std.proofs.lemmas.Int.{ints}
 use Rattle.std.proofs.lemmas.Bool.{cases_lt}
 use Rattle.algebra.specs.Sums.{sum_to}
@@ -89,3 +89,30 @@ total_to_front f (suc n) = let before = total_to_front f n in omega arith
 pub unsigned_abs_sum_to_total : (f : ℕ → ℤ) (n : ℕ) → unsigned_abs (sum_to f n) ≤ total_to (λ k. unsigned_abs (f k)) n
 unsigned_abs_sum_to_total f zero = omega (arith, ints)
 unsigned_abs_sum_to_total f (suc n) = let before = unsigned_abs_sum_to_total f n in omega (arith, ints)
+
+-- the total of one number n times, of a multiple, and of totals in either order
+
+pub total_to_const : (c n : ℕ) → total_to (λ _. c) n ≡ n * c
+total_to_const c zero = omega arith
+total_to_const c (suc n) = omega (arith, total_to_const c n)
+
+pub total_to_same : (f : ℕ → ℕ) (c n : ℕ) → ((k : ℕ) → 1 ≤ k → k ≤ n → f k ≡ c) → total_to f n ≡ n * c
+total_to_same f c n h = total_to_ext f (λ _. c) n h ∙ total_to_const c n
+
+pub total_to_mul_left : (c : ℕ) (f : ℕ → ℕ) (n : ℕ) → total_to (λ k. c * f k) n ≡ c * total_to f n
+total_to_mul_left c f zero = omega arith
+total_to_mul_left c f (suc n) = omega (arith, total_to_mul_left c f n, mul-add c (total_to f n) (f (suc n)))
+
+pub total_to_swap : (f : ℕ → ℕ → ℕ) (m n : ℕ) → total_to (λ i. total_to (λ j. f i j) n) m ≡ total_to (λ j. total_to (λ i. f i j) m) n
+total_to_swap f zero n = sym (total_to_zero (λ _. 0) n (λ k low high. refl))
+total_to_swap f (suc m) n =
+    ap (λ x. x + total_to (λ j. f (suc m) j) n) (total_to_swap f m n)
+    ∙ sym (total_to_add (λ j. total_to (λ i. f i j) m) (λ j. f (suc m) j) n)
+
+-- each value but the first and the last stands twice among neighbours
+pub total_to_neighbours : (f : ℕ → ℕ) (n : ℕ) → f 0 ≡ 0 → f (suc n) ≡ 0 → total_to (λ i. f (i - 1) + f i) (suc n) ≡ 2 * total_to f n
+total_to_neighbours f n first last =
+    let both = total_to_add (λ i. f (i - 1)) f (suc n) in
+    let front = total_to_front (λ i. f (i - 1)) n in
+    let shifted = total_to_ext (λ k. f (suc k - 1)) f n (λ k low high. ap f (omega arith)) in
+    omega arith

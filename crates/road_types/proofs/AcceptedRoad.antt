@@ -1,12 +1,14 @@
 -- A road's record has no fault exactly where it is well formed, and a road has none exactly where it is accepted.
 use Rattle.std.specs.Prelude.{ℕ, suc, ◌+◌, ◌-◌, ◌≤◌, ◌<◌, Bool, true, false, not, ◌&&◌, Option, Some, ◌==◌, nat_le, None, List, [], ◌∷◌, length, ℤ, pos, neg_ℤ, ◌≤ℤ◌, ◌<ℤ◌, int_le, int_lt}
 use Rattle.std.specs.List.{list_all}
-use Rattle.std.proofs.Common.{◌≡◌, refl, sym, ap, subst, arith}
+use Rattle.std.proofs.Common.{◌≡◌, ◌∙◌, ◌^◌, refl, sym, ap, subst, arith}
 use Rattle.std.proofs.lemmas.Int.{ints}
 use Rattle.std.proofs.lemmas.Slice.Eq.{bytes_eq-Decides}
 use Rattle.std.specs.Str.{bytes_eq}
 use Rattle.road_types.specs.declared.fault.Fault.{Fault}
-use Rattle.road_types.specs.declared.fault.Fault.TheVariants.{F6, F7, F8, F9, F10, F11, F12, F13, F14, F15}
+use Rattle.road_types.specs.declared.fault.Fault.TheVariants.{F6, F7, F8, F9, F10, F11, F12, F13, F14, F15, F17, F18}
+use Rattle.road_types.specs.Columns.{column_count}
+use Rattle.road_types.specs.RoadPrograms.{row_count, road_weight}
 use Rattle.road_types.specs.declared.road.Road.{Road}
 use Rattle.road_types.specs.declared.road.Section.{Section}
 use Rattle.road_types.specs.declared.road.Slab.{Slab}
@@ -19,7 +21,7 @@ use Rattle.road_types.specs.Numbered.{numbered, IsNumber}
 use Rattle.road_types.specs.Heights.{segment_start, segment_end}
 use Rattle.road_types.specs.Road.{section, hop, fixed_point, pit, access, block, no_section, no_hop, no_fixed, no_pit, no_access, no_block, section_count, hop_count, fixed_count, pit_count, access_count}
 use Rattle.road_types.specs.RecordFaults.{differs_from, stands_elsewhere, is_between, is_name_byte, is_measure, is_station, is_height, is_cost, is_cap, is_grade, is_curve, is_step, is_stages, is_name, is_solid, is_table, has_tables, has_few_slabs, slab_in_range, section_in_range, prices_in_range, hop_in_range, fixed_in_range, pit_in_range, access_in_range, block_in_range, scales_in_range, limits_in_range, grades_in_range, lists_in_range, is_in_range, rises, comes_before, stations_rise, first_of, last_of, is_on_knots, section_on_knots, sections_on_knots, low_holds, has_pit, stands_at_section, block_at_section, point_on_knots, names_differ, blocks_differ, stretch_counts_hold, record_fault, knots_hold, lows_hold, pits_hold, places_hold, counts_hold, budgets_hold}
-use Rattle.road_types.specs.Faults.{fault_or, size_fault, road_fault}
+use Rattle.road_types.specs.Faults.{fault_or, is_sized, is_light, size_fault, road_fault}
 use Rattle.road_types.specs.WellFormed.{IsBetween, IsStation, IsHeight, IsGrade, IsCurve, IsCost, IsCap, IsName, IsSolidSlab, IsSlabTable, IsOnKnots, IsWellFormedSection, IsWellFormedHop, IsWellFormedFixed, IsWellFormedPit, IsWellFormedAccess, IsWellFormedBlock, IsWellFormed}
 use Rattle.road_types.specs.Accepted.{IsAccepted}
 use Rattle.road_types.proofs.Acceptance.{one_of_key, key_of_one, Three, three_true, true_three, Four, four_true, true_four, kept_first, none_first, both_true, true_both, test_numbered, numbered_test, at_neighbours, test_of_le, test_of_lt, test_of_nat_le, test_of_nat_eq, test_of_between, test_of_number, neighbours_at, le_of_test, lt_of_test, nat_le_of_test, nat_eq_of_test, between_of_test, number_of_test}
@@ -542,10 +544,51 @@ no_first : (first later : Option Fault) → fault_or first later ≡ None → fi
 no_first None later h = refl
 no_first (Some fault) later h = cc
 
+no_later : (first later : Option Fault) → fault_or first later ≡ None → later ≡ None
+no_later None later h = h
+no_later (Some fault) later h = cc
+
+-- a road's size and weight have no fault exactly where they are within their limits
+
+pub record IsWithinSize (road : Road) : Type 0 where
+  pub rows : row_count road ≤ 600
+  pub columns : column_count road ≤ 1000
+  pub light : road_weight road ≤ 2 ^ 46
+
+size_from_fault : (road : Road) → size_fault road ≡ None → IsWithinSize road
+unfolding size_fault
+size_from_fault road h =
+    let r18 : List (Bool × Fault) = (is_light road, F18) ∷ [] in
+    let f17 = kept_first (is_sized road) F17 r18 h in
+    let f18 = kept_first (is_light road) F18 [] f17.others in
+    let sizes = both_true (nat_le (row_count road) 600) (nat_le (column_count road) 1000) f17.kept in
+    record {
+      rows = nat_le_of_test (row_count road) 600 sizes.0;
+      columns = nat_le_of_test (column_count road) 1000 sizes.1;
+      light = nat_le_of_test (road_weight road) (2 ^ 46) f18.kept;
+    }
+
+fault_from_size : (road : Road) → IsWithinSize road → size_fault road ≡ None
+unfolding size_fault
+fault_from_size road s =
+    let r18 : List (Bool × Fault) = (is_light road, F18) ∷ [] in
+    none_first (is_sized road) F17 r18
+    (true_both (nat_le (row_count road) 600) (nat_le (column_count road) 1000) (test_of_nat_le (row_count road) 600 s.rows) (test_of_nat_le (column_count road) 1000 s.columns))
+    (none_first (is_light road) F18 [] (test_of_nat_le (road_weight road) (2 ^ 46) s.light) refl)
+
 pub IsAccepted-from_fault : (road : Road) → road_fault road ≡ None → IsAccepted road
 unfolding road_fault
-IsAccepted-from_fault road h = record { well_formed = IsWellFormed-from_fault road (no_first (record_fault road) (size_fault road) h) }
+IsAccepted-from_fault road h =
+    let size = size_from_fault road (no_later (record_fault road) (size_fault road) h) in
+    record {
+      well_formed = IsWellFormed-from_fault road (no_first (record_fault road) (size_fault road) h);
+      rows = size.rows;
+      columns = size.columns;
+      light = size.light;
+    }
 
 pub road_fault-none : (road : Road) → IsAccepted road → road_fault road ≡ None
-unfolding road_fault size_fault
-road_fault-none road a = ap (λ (f : Option Fault). fault_or f (size_fault road)) (record_fault-none road a.well_formed)
+unfolding road_fault
+road_fault-none road a =
+    ap (λ (f : Option Fault). fault_or f (size_fault road)) (record_fault-none road a.well_formed)
+    ∙ fault_from_size road (record { rows = a.rows; columns = a.columns; light = a.light })

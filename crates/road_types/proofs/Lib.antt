@@ -4,3 +4,7 @@ pub mod Neighbours
 pub mod ListRests
 pub mod SegmentLemmas
 pub mod HeightWidths
+pub mod ColumnPlaces
+pub mod FormCounts
+pub mod WeightReaches
+pub mod WeightLemmas

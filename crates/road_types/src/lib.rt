@@ -3,19 +3,29 @@
 #![tactic(auto)]
 
 mod check;
+mod column;
+mod columns;
+mod counts;
 mod entries;
 mod fault;
 mod heights;
+mod lines;
 mod listed;
 pub mod ranges;
 mod road;
 mod segments;
 mod text;
 mod volumes;
+mod weight;
 
 /// The greatest length of a road file and of a section table, in bytes.
 pub const LONGEST_FILE: usize = 4_194_304;
 
+/// The greatest weight of a road: 2^46.
+pub const GREATEST_WEIGHT: i128 = 70_368_744_177_664;
+
+pub use column::Column;
+pub use columns::column_of;
 pub use fault::Fault;
 pub use heights::{grade_along, height_along};
 pub use listed::Listed;

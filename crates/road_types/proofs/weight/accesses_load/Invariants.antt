@@ -1,0 +1,7 @@
+use Rattle.std.proofs.Common.{◌≡◌, ◌*◌, ◌^◌, ◌≤◌}
+use Rattle.algebra.specs.Totals.{total_to}
+use Rattle.road_types.specs.inside.Loads.{access_load}
+use Rattle.road_types.proofs.weight.accesses_load.Given as goal
+
+abbrev pub invariant-loop-before : goal.invariant-loop-before
+invariant-loop-before l = record { value : l.total ≡ total_to (access_load l.road) l.before; small : l.total ≤ l.before * 2 ^ 110 }

@@ -1,0 +1,10 @@
+use Rattle.std.proofs.Common.{arith}
+use Rattle.algebra.proofs.TotalsLemmas.{total_to_step}
+use Rattle.road_types.specs.inside.Loads.{joint_load}
+use Rattle.road_types.proofs.weight.joints_load.Goals as goal
+
+pub loop-before-preserved : goal.loop-before-preserved
+loop-before-preserved c = record {
+  value = omega (arith, total_to_step (joint_load c.args.road.now) c.loop-before.before, c.joint_load-total.ensures.value);
+  small = omega (arith, c.joint_load-total.ensures.small);
+}

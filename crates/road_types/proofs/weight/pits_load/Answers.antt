@@ -1,0 +1,10 @@
+use Rattle.std.proofs.Common.{arith}
+use Rattle.algebra.proofs.TotalsLemmas.{total_to_step}
+use Rattle.road_types.specs.inside.Loads.{pit_load}
+use Rattle.road_types.proofs.weight.pits_load.Goals as goal
+
+pub loop-before-preserved : goal.loop-before-preserved
+loop-before-preserved c = record {
+  value = omega (arith, total_to_step (pit_load c.args.road.now) c.loop-before.before, c.pit_load-total.ensures.value);
+  small = omega (arith, c.pit_load-total.ensures.small);
+}
