@@ -4,7 +4,6 @@ use Rattle.text_parts.specs.Words.{parts_between, words_of}
 use Rattle.text_parts.specs.Decimal.{whole_of}
 use Rattle.road_types.specs.RecordFaults.{is_measure}
 use Rattle.road_types.specs.declared.road.Slab.{Slab}
-use Rattle.csv.specs.Records.{field_at}
 use Rattle.section_tables.specs.Steps.{◌>>=◌, where_kept, each}
 
 -- the byte between a slab's thickness and its area

@@ -6,7 +6,6 @@ use Rattle.csv.specs.Records.{field_at}
 use Rattle.road_types.specs.Limits.{longest_file}
 use Rattle.road_types.specs.RecordFaults.{is_station, is_height, is_cost, is_cap}
 use Rattle.road_types.specs.declared.road.Section.{Section}
-use Rattle.road_types.specs.declared.road.Slab.{Slab}
 use Rattle.section_tables.specs.Steps.{◌>>=◌, where_kept, each}
 use Rattle.section_tables.specs.Cells.{number_in, slabs_of}
 
@@ -24,8 +23,8 @@ column_count = 8
 
 -- a section's costs, in cost units per litre, and its caps, in litres
 unfoldable pub section_of : List (List ℕ) → Option Section
-section_of record_cells = do
-  cells ← where_kept (length record_cells == column_count) record_cells
+section_of fields = do
+  cells ← where_kept (length fields == column_count) fields
   station ← cell_at (number_in is_station) 0 cells
   height ← cell_at (number_in is_height) 1 cells
   cut ← cell_at slabs_of 2 cells

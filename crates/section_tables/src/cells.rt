@@ -2,7 +2,7 @@
 ghost use Rattle.std.specs.Prelude.{◌≡◌, Option, Some, None, option_map, ◌∷◌, []};
 ghost use Rattle.text_parts.specs.Words.{parts_between};
 ghost use Rattle.road_types.specs.RecordFaults.{is_station, is_height, is_measure, is_cost, is_cap};
-ghost use Rattle.section_tables.specs.Steps.{MayAnswer};
+ghost use Rattle.section_tables.specs.Steps.{MayAnswer, where_kept, each};
 ghost use Rattle.section_tables.specs.Cells.{number_in, slab_by, slab_of, slabs_of};
 ghost use Rattle.section_tables.specs.inside.Narrow.{is_narrow};
 
@@ -37,7 +37,6 @@ fn keep(rule: bool, number: i64) -> Result<i64, TableErr>
         Err(TableErr::Refused)
     }
 }
-ghost use Rattle.section_tables.specs.Steps.{where_kept};
 
 /// A station, in whole steps.
 #[tactic(auto, using(crate::proofs::NumbersLemmas::stations))]
@@ -84,6 +83,7 @@ pub(crate) fn cap(cell: &[u8]) -> Result<i64, TableErr>
     keep(is_cap(number), number)
 }
 
+/// A slab by its two parts.
 #[tactic(auto, unfolding(crate::specs::Cells::slab_by))]
 fn slab_by(thick: &[u8], area: &[u8]) -> Result<Slab, TableErr>
     ensures { MayAnswer result (slab_by (thick.now ∷ area.now ∷ [])) }
@@ -91,6 +91,18 @@ fn slab_by(thick: &[u8], area: &[u8]) -> Result<Slab, TableErr>
     let thick = measure(thick)?;
     let area = measure(area)?;
     Ok(Slab { thick, area })
+}
+
+/// A slab by its thickness and what stands behind the first colon.
+#[tactic(auto, using(crate::proofs::SlabsLemmas::third_part))]
+fn slab_with(thick: &[u8], behind: &[u8]) -> Result<Slab, TableErr>
+    ensures { MayAnswer result (slab_by (thick.now ∷ parts_between 58 behind.now)) }
+{
+    let (area, further) = cut_at(behind, b':');
+    if further.is_some() {
+        return Err(TableErr::Refused);
+    }
+    slab_by(thick, area)
 }
 
 /// A slab: its thickness and its area, parted by a colon.
@@ -101,10 +113,7 @@ fn slab(word: &[u8]) -> Result<Slab, TableErr>
     let (thick, Some(behind)) = cut_at(word, b':') else {
         return Err(TableErr::Refused);
     };
-    let (area, None) = cut_at(behind, b':') else {
-        return Err(TableErr::Refused);
-    };
-    slab_by(thick, area)
+    slab_with(thick, behind)
 }
 
 /// The slabs of a cell, from the ground away; none in an empty cell.
@@ -119,7 +128,7 @@ pub(crate) fn slabs(alloc: Global, cell: &[u8]) -> Result<Listed<Slab>, TableErr
 }
 
 fn slabs_among(alloc: Global, words: Words) -> Result<Listed<Slab>, TableErr>
-    ensures { MayAnswer result (each slab_of words) }
+    ensures { MayAnswer result (each slab_of words.entry) }
 {
     let mut slabs = Vec::new(alloc);
     for word in words {
@@ -127,4 +136,3 @@ fn slabs_among(alloc: Global, words: Words) -> Result<Listed<Slab>, TableErr>
     }
     Ok(Listed::new(slabs))
 }
-ghost use Rattle.section_tables.specs.Steps.{each};

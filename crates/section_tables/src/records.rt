@@ -15,92 +15,92 @@ use std::alloc::Global;
 /// The number of a table's columns.
 const COLUMNS: usize = 8;
 
-fn has_all_columns(record: &ByteRecord) -> bool
-    ensures { result ≡ (length (fields_of record.now) == column_count) }
+fn has_all_columns(row: &ByteRecord) -> bool
+    ensures { result ≡ (length (fields_of row.now) == column_count) }
 {
-    record.len() == COLUMNS
+    row.len() == COLUMNS
 }
 
-fn is_named(record: &ByteRecord, place: usize, name: &str) -> bool
-    ensures { result ≡ has_name (field_at (fields_of record.now) place) name.now }
+fn is_named(row: &ByteRecord, place: usize, name: &str) -> bool
+    ensures { result ≡ has_name (field_at (fields_of row.now) place) name.now }
 {
-    match record.get(place) {
+    match row.get(place) {
         Some(cell) => cell == name.as_bytes(),
         None => false,
     }
 }
 
-fn names_places(record: &ByteRecord) -> bool
-    ensures { result ≡ names_places (fields_of record.now) }
+fn names_places(row: &ByteRecord) -> bool
+    ensures { result ≡ names_places (fields_of row.now) }
 {
-    is_named(record, 0, "station")
-        && is_named(record, 1, "ground")
-        && is_named(record, 2, "cut")
-        && is_named(record, 3, "fill")
+    is_named(row, 0, "station")
+        && is_named(row, 1, "ground")
+        && is_named(row, 2, "cut")
+        && is_named(row, 3, "fill")
 }
 
-fn names_prices(record: &ByteRecord) -> bool
-    ensures { result ≡ names_prices (fields_of record.now) }
+fn names_prices(row: &ByteRecord) -> bool
+    ensures { result ≡ names_prices (fields_of row.now) }
 {
-    is_named(record, 4, "cut_cost")
-        && is_named(record, 5, "fill_cost")
-        && is_named(record, 6, "cut_max")
-        && is_named(record, 7, "fill_max")
+    is_named(row, 4, "cut_cost")
+        && is_named(row, 5, "fill_cost")
+        && is_named(row, 6, "cut_max")
+        && is_named(row, 7, "fill_max")
 }
 
 /// Whether a record names the columns in their order.
 #[tactic(auto, unfolding(crate::specs::Tables::is_header))]
-pub(crate) fn is_header(record: &ByteRecord) -> bool
-    ensures { result ≡ is_header (fields_of record.now) }
+pub(crate) fn is_header(row: &ByteRecord) -> bool
+    ensures { result ≡ is_header (fields_of row.now) }
 {
-    has_all_columns(record) && names_places(record) && names_prices(record)
+    has_all_columns(row) && names_places(row) && names_prices(row)
 }
 
 #[tactic(auto, unfolding(crate::specs::Tables::cell_at))]
-fn station_at(record: &ByteRecord, place: usize) -> Result<i64, TableErr>
-    ensures { MayAnswer result (cell_at (number_in is_station) place (fields_of record.now)) }
+fn station_at(row: &ByteRecord, place: usize) -> Result<i64, TableErr>
+    ensures { MayAnswer result (cell_at (number_in is_station) place (fields_of row.now)) }
 {
-    match record.get(place) {
+    match row.get(place) {
         Some(cell) => station(cell),
         None => Err(TableErr::Refused),
     }
 }
 
 #[tactic(auto, unfolding(crate::specs::Tables::cell_at))]
-fn height_at(record: &ByteRecord, place: usize) -> Result<i64, TableErr>
-    ensures { MayAnswer result (cell_at (number_in is_height) place (fields_of record.now)) }
+fn height_at(row: &ByteRecord, place: usize) -> Result<i64, TableErr>
+    ensures { MayAnswer result (cell_at (number_in is_height) place (fields_of row.now)) }
 {
-    match record.get(place) {
+    match row.get(place) {
         Some(cell) => height(cell),
         None => Err(TableErr::Refused),
     }
 }
 
 #[tactic(auto, unfolding(crate::specs::Tables::cell_at))]
-fn slabs_at(alloc: Global, record: &ByteRecord, place: usize) -> Result<Listed<Slab>, TableErr>
-    ensures { MayAnswer result (cell_at slabs_of place (fields_of record.now)) }
+fn slabs_at(alloc: Global, row: &ByteRecord, place: usize) -> Result<Listed<Slab>, TableErr>
+    ensures { MayAnswer result (cell_at slabs_of place (fields_of row.now)) }
 {
-    match record.get(place) {
+    match row.get(place) {
         Some(cell) => slabs(alloc, cell),
         None => Err(TableErr::Refused),
     }
 }
 
 #[tactic(auto, unfolding(crate::specs::Tables::cell_at))]
-fn cost_at(record: &ByteRecord, place: usize) -> Result<i64, TableErr>
-    ensures { MayAnswer result (cell_at (number_in is_cost) place (fields_of record.now)) }
+fn cost_at(row: &ByteRecord, place: usize) -> Result<i64, TableErr>
+    ensures { MayAnswer result (cell_at (number_in is_cost) place (fields_of row.now)) }
 {
-    match record.get(place) {
+    match row.get(place) {
         Some(cell) => cost(cell),
         None => Err(TableErr::Refused),
     }
 }
 
 #[tactic(auto, unfolding(crate::specs::Tables::cell_at))]
-fn cap_at(record: &ByteRecord, place: usize) -> Result<i64, TableErr>
-    ensures { MayAnswer result (cell_at (number_in is_cap) place (fields_of record.now)) }
+fn cap_at(row: &ByteRecord, place: usize) -> Result<i64, TableErr>
+    ensures { MayAnswer result (cell_at (number_in is_cap) place (fields_of row.now)) }
 {
-    match record.get(place) {
+    match row.get(place) {
         Some(cell) => cap(cell),
         None => Err(TableErr::Refused),
     }
@@ -108,20 +108,20 @@ fn cap_at(record: &ByteRecord, place: usize) -> Result<i64, TableErr>
 
 /// The section of a record.
 #[tactic(auto, unfolding(crate::specs::Tables::section_of))]
-pub(crate) fn section(alloc: Global, record: &ByteRecord) -> Result<Section, TableErr>
-    ensures { MayAnswer result (section_of (fields_of record.now)) }
+pub(crate) fn section(alloc: Global, row: &ByteRecord) -> Result<Section, TableErr>
+    ensures { MayAnswer result (section_of (fields_of row.now)) }
 {
-    if !has_all_columns(record) {
+    if !has_all_columns(row) {
         return Err(TableErr::Refused);
     }
     Ok(Section {
-        station: station_at(record, 0)?,
-        ground: height_at(record, 1)?,
-        cut: slabs_at(alloc, record, 2)?,
-        fill: slabs_at(alloc, record, 3)?,
-        cut_cost: cost_at(record, 4)?,
-        fill_cost: cost_at(record, 5)?,
-        cut_max: cap_at(record, 6)?,
-        fill_max: cap_at(record, 7)?,
+        station: station_at(row, 0)?,
+        ground: height_at(row, 1)?,
+        cut: slabs_at(alloc, row, 2)?,
+        fill: slabs_at(alloc, row, 3)?,
+        cut_cost: cost_at(row, 4)?,
+        fill_cost: cost_at(row, 5)?,
+        cut_max: cap_at(row, 6)?,
+        fill_max: cap_at(row, 7)?,
     })
 }

@@ -36,15 +36,18 @@ fn sections(alloc: Global, bytes: &[u8]) -> Result<Listed<Section>, TableErr>
     let Ok(is_there) = rdr.read_byte_record(&mut header) else {
         return Err(TableErr::NoMemory);
     };
-    if !is_there || !is_header(&header) {
+    if !is_there {
+        return Err(TableErr::Refused);
+    }
+    if !is_header(&header) {
         return Err(TableErr::Refused);
     }
     let mut sections = Vec::new(alloc);
     for record in rdr.into_byte_records() {
-        let Ok(record) = record else {
+        let Ok(row) = record else {
             return Err(TableErr::NoMemory);
         };
-        sections.push(section(alloc, &record)?)?;
+        sections.push(section(alloc, &row)?)?;
     }
     Ok(Listed::new(sections))
 }

@@ -1,5 +1,5 @@
 -- Numbers of 64 bits.
-use Rattle.std.specs.Prelude.{ℤ, pos, negsuc, neg_ℤ, Bool}
+use Rattle.std.specs.Prelude.{ℤ, pos, neg_ℤ, Bool}
 use Rattle.road_types.specs.RecordFaults.{is_between}
 
 -- the numbers from -2^63 to 2^63 - 1
