@@ -90,13 +90,18 @@ module _ {A : Type 0} where
         is_entry = sym (get_or_append_left xs ys x e.before l) ∙ e.is_entry;
       }))
       (λ (l : length xs ≤ e.before).
-      inr (suc (e.before - length xs),
-      (omega (arith, e.number), record {
-        before = e.before - length xs;
-        number = refl;
-        within = omega (arith, length-append xs ys, e.within);
-        is_entry = sym (get_or-append_right xs ys (length xs) e.before x refl l) ∙ e.is_entry;
-      })))
+      inr (
+        suc (e.before - length xs),
+        (
+          omega (arith, e.number),
+          record {
+            before = e.before - length xs;
+            number = refl;
+            within = omega (arith, length-append xs ys, e.within);
+            is_entry = sym (get_or-append_right xs ys (length xs) e.before x refl l) ∙ e.is_entry;
+          },
+        ),
+      ))
       (cases_lt e.before (length xs))
 
   pub entry_of_none : (j : ℕ) (x : A) → IsEntry [] j x → ⊥

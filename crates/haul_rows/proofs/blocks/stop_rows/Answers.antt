@@ -1,0 +1,37 @@
+use Rattle.std.proofs.Common.{◌≡◌, ℕ, suc, ◌+◌, ◌-◌, ◌*◌, ◌<◌, ◌≤◌, List, [], ◌∷◌, ◌++◌, length, arith, ap, sym, ◌∙◌, refl, subst}
+use Rattle.std.specs.Prelude.{ℤ, pos, neg_ℤ}
+use Rattle.std.proofs.Math.Nat.{mul-le-mul_right}
+use Rattle.algebra.specs.Lists.{list_to, flat_to}
+use Rattle.road_types.specs.Columns.{column_count}
+use Rattle.road_types.specs.Forms.{Form, between_forms}
+use Rattle.road_types.specs.Heights.{segment_length}
+use Rattle.road_types.specs.HaulForms.{brought, taken, balance_form, pit_form, transit_form, cut_stop_form, fill_stop_form, order_form}
+use Rattle.road_types.specs.SectionForms.{grade_entries, station_entries, offset_form, next_height_form, next_grade_form, lines_forms}
+use Rattle.road_types.specs.Road.{section_count, segment_count, fixed_count, fixed_point, pit_count, block_count, access_count}
+use Rattle.road_types.specs.RoadPrograms.{terms_of}
+use Rattle.road_types.specs.declared.column.Column.{Column}
+use Rattle.road_types.specs.declared.column.Column.TheVariants.{Cut, Fill, Access}
+use Rattle.form_rows.specs.FormRows.{form_terms, forms_terms, Grew}
+use Rattle.form_rows.proofs.GrewLemmas.{grew_none, grew_more, grew_count, grew_list, grew_flat, terms_list, terms_flat, length-terms, length-pairs}
+use Rattle.haul_rows.proofs.blocks.stop_rows.Goals as goal
+
+pub block_stop_rows-requires-clause-free : goal.block_stop_rows-requires-clause-free
+block_stop_rows-requires-clause-free c =
+    let more : c.loop-before.before + 1 ≤ block_count c.args.road.now = omega arith in
+    omega (arith, c.loop-before.invariant.grew.room, mul-le-mul_right (2 * (c.args.road.now.stages - 1)) more)
+
+pub block_stop_rows-requires-clause-width : goal.block_stop_rows-requires-clause-width
+block_stop_rows-requires-clause-width c = omega (arith, c.loop-before.invariant.grew.width)
+
+pub loop-before-preserved : goal.loop-before-preserved
+loop-before-preserved c =
+    let step = c.block_stop_rows.ensures in
+    record {
+      grew = grew_flat c.args.road.now (λ k. flat_to (λ before. cut_stop_form c.args.road.now k (before + 1) ∷ fill_stop_form c.args.road.now k (before + 1) ∷ []) (c.args.road.now.stages - 1)) c.loop-before.before c.args.rows.now c.loop-before.rows c.block_stop_rows.new.rows c.loop-before.invariant.grew step;
+      count = omega (arith, grew_count c.loop-before.rows c.block_stop_rows.new.rows (forms_terms c.args.road.now (flat_to (λ before. cut_stop_form c.args.road.now (c.loop-before.before + 1) (before + 1) ∷ fill_stop_form c.args.road.now (c.loop-before.before + 1) (before + 1) ∷ []) (c.args.road.now.stages - 1))) step, length-pairs c.args.road.now (λ before. cut_stop_form c.args.road.now (c.loop-before.before + 1) (before + 1) ∷ fill_stop_form c.args.road.now (c.loop-before.before + 1) (before + 1) ∷ []) (c.args.road.now.stages - 1) (λ k. refl));
+    }
+
+pub returns : goal.returns
+returns c =
+    let all : c.loop-before.before ≡ block_count c.args.road.now = omega arith in
+    subst (λ k. Grew c.args.rows.now c.loop-before.rows (forms_terms c.args.road.now (flat_to (λ k. flat_to (λ before. cut_stop_form c.args.road.now k (before + 1) ∷ fill_stop_form c.args.road.now k (before + 1) ∷ []) (c.args.road.now.stages - 1)) k))) all c.loop-before.invariant.grew

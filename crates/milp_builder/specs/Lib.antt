@@ -1,0 +1,5 @@
+pub mod Boxes
+pub mod Parts
+pub mod BoxPrograms
+pub mod FoundPlans
+pub mod inside

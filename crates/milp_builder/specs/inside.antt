@@ -1,0 +1,2 @@
+pub mod SmallPoints
+pub mod Amounts

@@ -1,0 +1,14 @@
+pub mod FormValues
+pub mod FormGroups
+pub mod Shows
+pub mod RowValues
+pub mod PlanFacts
+pub mod RoadKinds
+pub mod PointShows
+pub mod FormsHold
+pub mod PointCost
+pub mod PlansArePoints
+pub mod OpenedStages
+pub mod PlanAt
+pub mod PointsArePlans
+pub mod OnlyPlan

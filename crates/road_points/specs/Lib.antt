@@ -1,0 +1,3 @@
+pub mod PlanPoints
+pub mod Shown
+pub mod ShownPlan

@@ -1,0 +1,55 @@
+use Rattle.std.proofs.Common.{◌≡◌, ℕ, ◌+◌, ◌-◌, ◌*◌, List, [], ◌∷◌, ◌++◌, length, map, arith, ap, sym, ◌∙◌, refl, FitsSigned, rules}
+use Rattle.std.specs.Prelude.{ℤ, pos, neg_ℤ}
+use Rattle.std.specs.Int.{w64}
+use Rattle.std.proofs.lemmas.Int.{to_z-of_z}
+use Rattle.std.proofs.lemmas.List.{append-nil}
+use Rattle.algebra.specs.Lists.{list_to, flat_to}
+use Rattle.algebra.proofs.Products.{int_neg_neg}
+use Rattle.algebra.proofs.ListsLemmas.{map-flat_to}
+use Rattle.road_types.specs.Columns.{column_number}
+use Rattle.road_types.specs.Forms.{negated}
+use Rattle.road_types.specs.RoadPrograms.{term_in, terms_of, lines_in}
+use Rattle.road_types.specs.SectionForms.{volume_entries}
+use Rattle.road_types.specs.declared.road.Road.{Road}
+use Rattle.road_types.specs.declared.column.Column.{Column}
+use Rattle.road_types.specs.declared.column.Column.TheVariants.{Offset, Cut, Fill}
+use Rattle.term_store.specs.declared.term.Term.{Term}
+use Rattle.form_rows.specs.FormRows.{Grew, form_terms, forms_terms}
+use Rattle.form_rows.proofs.GrewLemmas.{rising_fits, grew_by, grew_more, grew_count}
+use Rattle.form_rows.proofs.RisingLemmas.{volume_row_rises}
+use Rattle.road_types.specs.Lines.{Lines, lines_over}
+use Rattle.road_types.specs.Ranges.{IsHeightRange, height_range}
+use Rattle.road_types.specs.Road.{section}
+use Rattle.section_rows.proofs.volumes.lines_rows.Goals as goal
+
+pub slopes-slopes-requires-clause-range : goal.slopes-slopes-requires-clause-range
+slopes-slopes-requires-clause-range c = rw (c.section.ensures, c.at.ensures) (c.requires.ranges.each c.args.section c.requires.section)
+
+pub returns : goal.returns
+returns c =
+    let road = c.args.road.now in
+    let i = c.args.section in
+    let lines = lines_in road c.args.ranges.now.heights i in
+    let found = c.slopes-slopes.result in
+    let l : FitsSigned w64 c.slopes-slopes.result.least = search rules in
+    let g : FitsSigned w64 c.slopes-slopes.result.greatest = search rules in
+    let least : found.least ≡ lines.least = rw (c.section.ensures, c.at.ensures) at c.slopes-slopes.ensures.least in
+    let greatest : found.greatest ≡ lines.greatest = rw (c.section.ensures, c.at.ensures) at c.slopes-slopes.ensures.greatest in
+    let r0 = c.args.rows.now in
+    let r1 = c.above_row.new.rows in
+    let r2 = c.below_row.new.rows in
+    let r3 = c.below_row-2.new.rows in
+    let r4 = c.above_row-2.new.rows in
+    let above : ℤ → List (List (Term ℤ)) = λ slope. terms_of road (volume_entries road i slope) ∷ [] in
+    let below : ℤ → List (List (Term ℤ)) = λ slope. terms_of road (negated (volume_entries road i slope)) ∷ [] in
+    let one : Grew r0 r1 (above found.least) = simp to_z-of_z at c.above_row.ensures in
+    let two : Grew r1 r2 (below found.greatest) = simp to_z-of_z at c.below_row.ensures in
+    let three : Grew r2 r3 (below found.least) = simp to_z-of_z at c.below_row-2.ensures in
+    let four : Grew r3 r4 (above found.greatest) = simp to_z-of_z at c.above_row-2.ensures in
+    let one' = grew_by r0 r1 (above found.least) (above lines.least) (ap above least) one in
+    let two' = grew_by r1 r2 (below found.greatest) (below lines.greatest) (ap below greatest) two in
+    let three' = grew_by r2 r3 (below found.least) (below lines.least) (ap below least) three in
+    let four' = grew_by r3 r4 (above found.greatest) (above lines.greatest) (ap above greatest) four in
+    grew_more r0 r3 r4 ((above lines.least ++ below lines.greatest) ++ below lines.least) (above lines.greatest)
+    (grew_more r0 r2 r3 (above lines.least ++ below lines.greatest) (below lines.least)
+    (grew_more r0 r1 r2 (above lines.least) (below lines.greatest) one' two') three') four'

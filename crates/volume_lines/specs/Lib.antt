@@ -1,0 +1,2 @@
+pub mod SlabTables
+pub mod InnerBreakpoints
