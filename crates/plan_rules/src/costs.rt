@@ -1,10 +1,12 @@
 // What a plan costs.
-ghost use Rattle.std.specs.Prelude.{◌≡◌, ◌^◌, ◌≤◌, ◌*◌, ℤ, ◌+ℤ◌, ◌*ℤ◌, unsigned_abs};
+ghost use Rattle.std.specs.Prelude.{◌≡◌, ◌^◌, ◌≤◌, ◌*◌, ℤ, ◌+ℤ◌, ◌*ℤ◌, unsigned_abs, None};
 ghost use Rattle.algebra.specs.Sums.{sum_to};
 ghost use Rattle.road_types.specs.Numbered.{IsNumber};
+ghost use Rattle.road_types.specs.Faults.{road_fault};
 ghost use Rattle.road_types.specs.Road.{block_count};
 ghost use Rattle.road_types.specs.WellFormed.{IsWellFormed};
 ghost use Rattle.plan_rules.specs.Fits.{Fits};
+ghost use Rattle.plan_rules.specs.Rules.{IsAdmissible};
 ghost use Rattle.plan_rules.specs.Costs.{amounts_of, entry_count, unit_cost, entry_cost, stage_cost, movement_cost, removal_cost, cut_total, fill_total, haul_total, access_total, removal_total, cost_of};
 ghost use Rattle.plan_rules.specs.inside.Widths.{IsPayable};
 
@@ -21,6 +23,65 @@ enum Movement {
     Right,
     Left,
     Access,
+}
+
+/// What a plan costs by what is paid for, each total over the plan's denominator.
+#[derive(Clone, Copy, Debug)]
+pub struct CostTotals {
+    /// Cut in all sections.
+    pub cut: i128,
+    /// Fill in all sections.
+    pub fill: i128,
+    /// Hauls over hops, both ways.
+    pub haul: i128,
+    /// Access roads with their pits.
+    pub access: i128,
+    /// Removals of blocks.
+    pub removal: i128,
+}
+
+/// The five totals of an admissible plan, which together are its cost. Each has a magnitude of at most 2^118.
+pub fn cost_totals(road: &Road, plan: &Plan) -> CostTotals
+    requires accepted { road_fault road.now ≡ None }
+    requires fits { Fits road.now plan.now }
+    requires admissible { IsAdmissible road.now plan.now }
+    ensures cut { result.cut ≡ cut_total road.now plan.now }
+    ensures fill { result.fill ≡ fill_total road.now plan.now }
+    ensures haul { result.haul ≡ haul_total road.now plan.now }
+    ensures access { result.access ≡ access_total road.now plan.now }
+    ensures removal { result.removal ≡ removal_total road.now plan.now }
+    ensures cut_width { unsigned_abs result.cut ≤ 2 ^ 118 }
+    ensures fill_width { unsigned_abs result.fill ≤ 2 ^ 118 }
+    ensures haul_width { unsigned_abs result.haul ≤ 2 ^ 118 }
+    ensures access_width { unsigned_abs result.access ≤ 2 ^ 118 }
+    ensures removal_width { unsigned_abs result.removal ≤ 2 ^ 118 }
+{
+    totals(road, plan)
+}
+
+/// The five totals of a plan whose amounts are within their caps.
+fn totals(road: &Road, plan: &Plan) -> CostTotals
+    requires well_formed { IsWellFormed road.now }
+    requires fits { Fits road.now plan.now }
+    requires payable { IsPayable road.now plan.now }
+    ensures cut { result.cut ≡ cut_total road.now plan.now }
+    ensures fill { result.fill ≡ fill_total road.now plan.now }
+    ensures haul { result.haul ≡ haul_total road.now plan.now }
+    ensures access { result.access ≡ access_total road.now plan.now }
+    ensures removal { result.removal ≡ removal_total road.now plan.now }
+    ensures cut_width { unsigned_abs result.cut ≤ 48 * 10 ^ 21 * 2 ^ 40 }
+    ensures fill_width { unsigned_abs result.fill ≤ 48 * 10 ^ 21 * 2 ^ 40 }
+    ensures haul_width { unsigned_abs result.haul ≤ 96 * 10 ^ 21 * 2 ^ 40 }
+    ensures access_width { unsigned_abs result.access ≤ 48 * 10 ^ 21 * 2 ^ 40 }
+    ensures removal_width { unsigned_abs result.removal ≤ 2 ^ 62 }
+{
+    CostTotals {
+        cut: movement_cost(road, plan, Movement::Cut),
+        fill: movement_cost(road, plan, Movement::Fill),
+        haul: haul_total(road, plan),
+        access: movement_cost(road, plan, Movement::Access),
+        removal: removal_total(road, plan),
+    }
 }
 
 /// The cost of a plan whose amounts are within their caps, over its denominator.

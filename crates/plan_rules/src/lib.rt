@@ -3,7 +3,7 @@
 #![tactic(auto)]
 
 mod costs;
-mod entries;
+pub mod entries;
 mod fits;
 mod heights;
 mod judging;
@@ -13,6 +13,7 @@ mod rules;
 mod verdict;
 mod within;
 
+pub use costs::{CostTotals, cost_totals};
 pub use heights::{height_at, offset_of};
 pub use judging::judge;
 pub use plan::{Piece, Plan};
