@@ -1,2 +1,3 @@
 pub mod RisingLemmas
 pub mod GrewLemmas
+pub mod PlaceLemmas

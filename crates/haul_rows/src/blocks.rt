@@ -119,7 +119,7 @@ pub(crate) fn transit_rows(road: &Road, row: &mut FormRow, rows: &mut Rows<i64>)
 }
 
 /// The opposite of a cap.
-fn opposite(cap: i64) -> i64
+pub(crate) fn opposite(cap: i64) -> i64
     requires { pos 0 ≤ℤ cap }
     ensures { result ≡ neg_ℤ cap }
 {

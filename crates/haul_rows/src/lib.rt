@@ -6,5 +6,7 @@ mod balances;
 mod blocks;
 mod pits;
 mod rows;
+mod sides;
 
 pub use rows::haul_rows;
+pub use sides::haul_side;

@@ -1,12 +1,14 @@
 -- Slopes found slab by slab, and how far breakpoints lie from the ground.
 use Rattle.std.proofs.Common.{◌≡◌, ℕ, zero, suc, ◌+◌, ◌*◌, ◌<◌, ◌≤◌, List, [], ◌∷◌, ◌++◌, length, get_or, take, drop, arith, ap, sym, ◌∙◌, refl, ⊎_elim}
-use Rattle.std.specs.Prelude.{ℤ, pos, neg_ℤ, ◌+ℤ◌, ◌≤ℤ◌, fold, unsigned_abs}
-use Rattle.std.proofs.lemmas.Int.{ints}
+use Rattle.std.specs.Prelude.{ℤ, pos, neg_ℤ, ◌+ℤ◌, ◌-ℤ◌, ◌*ℤ◌, ◌≤ℤ◌, fold, unsigned_abs}
+use Rattle.std.proofs.lemmas.Int.{ints, clamps}
 use Rattle.std.proofs.lemmas.List.{at_drop_more, at_drop_all}
+use Rattle.std.specs.Int.{int_min, int_max}
+use Rattle.algebra.proofs.Order.{int_mul_le_right}
 use Rattle.algebra.specs.Numbered.{numbered, IsNumber}
 use Rattle.road_types.specs.Breakpoints.{IsBreakpoint, leading_thickness}
 use Rattle.road_types.specs.Lines.{areas_between}
-use Rattle.road_types.specs.Volumes.{thickness_of}
+use Rattle.road_types.specs.Volumes.{thickness_of, volume_to, net_volume}
 use Rattle.road_types.specs.WellFormed.{IsSolidSlab, IsSlabTable}
 use Rattle.road_types.specs.declared.road.Slab.{Slab}
 use Rattle.road_types.specs.declared.road.Section.{Section}
@@ -51,3 +53,25 @@ breakpoint_span s x cut fill b =
     (λ (e : x ≡ leading_thickness s.fill b.0). let span = leading_span s.fill b.0 fill.solid in omega (arith, ints, e, span.0, span.1, fill.few))
     (λ (e : x ≡ neg_ℤ (leading_thickness s.cut b.0)). let span = leading_span s.cut b.0 cut.solid in omega (arith, ints, e, span.0, span.1, cut.few))
     b.1
+
+-- a table's volume at any depth is at most ten million times its thickness
+volume_span : (slabs : List Slab) (depth : ℤ) → ((j : ℕ) (other : Slab) → IsNumber j (length slabs) → IsSolidSlab (numbered other slabs j)) → pos 0 ≤ℤ depth
+    → (pos 0 ≤ℤ volume_to slabs depth (pos 1)) × (volume_to slabs depth (pos 1) ≤ℤ pos (length slabs * 100000000000000))
+unfolding volume_to
+volume_span [] depth h p = (omega (arith, ints), omega (arith, ints))
+volume_span (slab ∷ slabs) depth h p =
+    let first = h 1 slab (record { from_one = omega arith; at_most = omega arith }) in
+    let taken = int_min depth (slab.thick *ℤ pos 1) in
+    let left = int_max (depth -ℤ slab.thick *ℤ pos 1) (pos 0) in
+    let from : pos 0 ≤ℤ taken = omega (arith, ints, clamps, p, first.thick.at_least) in
+    let to : taken ≤ℤ pos 10000000 = omega (arith, ints, clamps, first.thick.at_most) in
+    let rest = volume_span slabs left (later_solid slab slabs h) (omega (arith, ints, clamps)) in
+    let low = int_mul_le_right (pos 0) slab.area taken from (omega (arith, ints, first.area.at_least)) in
+    let high = int_mul_le_right slab.area (pos 10000000) taken from first.area.at_most in
+    (omega (arith, ints, low, rest.0), omega (arith, ints, high, to, rest.1))
+
+pub net_span : (s : Section) (x : ℤ) → IsSlabTable s.cut → IsSlabTable s.fill → unsigned_abs (net_volume s.cut s.fill x (pos 1)) ≤ 400000000000000
+net_span s x cut fill =
+    let above = volume_span s.fill (int_max x (pos 0)) fill.solid (omega (arith, ints, clamps)) in
+    let below = volume_span s.cut (int_max (neg_ℤ x) (pos 0)) cut.solid (omega (arith, ints, clamps)) in
+    omega (arith, ints, above.0, above.1, below.0, below.1, cut.few, fill.few)

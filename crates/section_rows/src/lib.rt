@@ -6,8 +6,11 @@ mod heights;
 mod lines;
 mod numbers;
 mod ranges;
+mod rights;
 mod rows;
+mod sides;
 mod volumes;
 
 pub use ranges::Ranges;
 pub use rows::section_rows;
+pub use sides::section_side;

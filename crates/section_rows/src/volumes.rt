@@ -13,9 +13,9 @@ ghost use Rattle.road_types.specs.RoadPrograms.{terms_of, lines_in};
 ghost use Rattle.road_types.specs.SectionForms.{volume_entries, lines_forms, volume_forms};
 ghost use Rattle.road_types.specs.declared.column.Column.TheVariants.{Offset, Cut, Fill};
 
-use crate::lines::slopes;
 use crate::numbers::opposite;
 use crate::ranges::Ranges;
+use crate::rights::section_slopes;
 use form_rows::FormRow;
 use road_types::{Column, Road};
 use term_store::Rows;
@@ -93,7 +93,7 @@ fn lines_rows(road: &Road, ranges: &Ranges, section: usize, row: &mut FormRow, r
     ensures { Grew rows.old rows.new
         (forms_terms road.now (lines_forms road.now section (lines_in road.now ranges.now.heights section))) }
 {
-    let slopes = slopes(road.section(section), ranges.at(section));
+    let slopes = section_slopes(road, ranges, section);
     above_row(road, section, slopes.least, row, rows);
     below_row(road, section, slopes.greatest, row, rows);
     below_row(road, section, slopes.least, row, rows);

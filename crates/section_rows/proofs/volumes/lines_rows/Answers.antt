@@ -22,19 +22,16 @@ use Rattle.road_types.specs.Ranges.{IsHeightRange, height_range}
 use Rattle.road_types.specs.Road.{section}
 use Rattle.section_rows.proofs.volumes.lines_rows.Goals as goal
 
-pub slopes-slopes-requires-clause-range : goal.slopes-slopes-requires-clause-range
-slopes-slopes-requires-clause-range c = rw (c.section.ensures, c.at.ensures) (c.requires.ranges.each c.args.section c.requires.section)
-
 pub returns : goal.returns
 returns c =
     let road = c.args.road.now in
     let i = c.args.section in
     let lines = lines_in road c.args.ranges.now.heights i in
-    let found = c.slopes-slopes.result in
-    let l : FitsSigned w64 c.slopes-slopes.result.least = search rules in
-    let g : FitsSigned w64 c.slopes-slopes.result.greatest = search rules in
-    let least : found.least ≡ lines.least = rw (c.section.ensures, c.at.ensures) at c.slopes-slopes.ensures.least in
-    let greatest : found.greatest ≡ lines.greatest = rw (c.section.ensures, c.at.ensures) at c.slopes-slopes.ensures.greatest in
+    let found = c.section_slopes-slopes.result in
+    let l : FitsSigned w64 c.section_slopes-slopes.result.least = search rules in
+    let g : FitsSigned w64 c.section_slopes-slopes.result.greatest = search rules in
+    let least : found.least ≡ lines.least = c.section_slopes-slopes.ensures.least in
+    let greatest : found.greatest ≡ lines.greatest = c.section_slopes-slopes.ensures.greatest in
     let r0 = c.args.rows.now in
     let r1 = c.above_row.new.rows in
     let r2 = c.below_row.new.rows in
