@@ -7,7 +7,11 @@ use Rattle.road_types.specs.SectionForms.{offset_forms, continuity_forms, grade_
 use Rattle.road_types.proofs.FormCounts.{length-offset_forms}
 use Rattle.form_rows.specs.FormRows.{asked}
 use Rattle.form_rows.proofs.PlaceLemmas.{first_at, behind_at}
+use Rattle.road_types.proofs.AcceptedRoad.{IsAccepted-from_fault}
 use Rattle.section_rows.proofs.sides.section_side.Goals as goal
+
+pub later_side-requires-clause-accepted : goal.later_side-requires-clause-accepted
+later_side-requires-clause-accepted c = IsAccepted-from_fault c.args.road.now c.requires.accepted
 
 pub returns-then-row-count : goal.returns-then-row-count
 returns-then-row-count c =
