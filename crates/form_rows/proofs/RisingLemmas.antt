@@ -1,6 +1,6 @@
 -- The terms of each row of a road's program rise by column, stand on its columns, and aren't 0.
-use Rattle.std.proofs.Common.{◌≡◌, ℕ, zero, suc, ◌+◌, ◌-◌, ◌*◌, ◌<◌, ◌≤◌, Bool, true, false, ◌&&◌, cond, List, [], ◌∷◌, ◌++◌, length, arith, ap, sym, ◌∙◌, refl, subst, Option, Some, None}
-use Rattle.std.specs.Prelude.{ℤ, pos, neg_ℤ, nat_le}
+use Rattle.std.proofs.Common.{◌≡◌, ℕ, zero, suc, ◌+◌, ◌-◌, ◌*◌, ◌<◌, ◌≤◌, Bool, true, false, ◌&&◌, cond, List, [], ◌∷◌, ◌++◌, arith, ap, sym, ◌∙◌, refl, subst, Option, Some, None}
+use Rattle.std.specs.Prelude.{ℤ, pos, nat_le}
 use Rattle.std.specs.Ordering.{int_eq}
 use Rattle.std.proofs.Math.Nat.{mul-le-mul_right}
 use Rattle.std.proofs.lemmas.List.{append_assoc}
@@ -8,8 +8,8 @@ use Rattle.std.proofs.lemmas.Bool.Decides.{Decides-int_eq}
 use Rattle.algebra.specs.Lists.{list_to, flat_to}
 use Rattle.algebra.specs.Numbered.{IsNumber}
 use Rattle.programs.specs.Limits.{Rises}
-use Rattle.programs.proofs.RisesLemmas.{rises_ordered, rises_wider, rises-append}
-use Rattle.road_types.specs.Columns.{columns_of, IsColumn, column_number, column_at, column_count, stage_width, offsets_before, stages_before, blocks_before, segment_column, stage_column, block_column}
+use Rattle.programs.proofs.RisesLemmas.{rises_wider, rises-append}
+use Rattle.road_types.specs.Columns.{column_number, column_count, stage_width, offsets_before, stages_before, blocks_before, segment_column, stage_column}
 use Rattle.road_types.specs.RecordFaults.{is_number}
 use Rattle.road_types.specs.Road.{section_count, segment_count, hop_count, access_count, block_count}
 use Rattle.road_types.specs.RoadPrograms.{term_in, terms_of}
@@ -19,7 +19,6 @@ use Rattle.road_types.specs.declared.column.Column.{Column}
 use Rattle.road_types.specs.declared.column.Column.TheVariants.{A, B, C, Offset, Cut, Fill, Right, Left, Access, Opened}
 use Rattle.road_types.proofs.Acceptance.{both_true, number_of_test, nat_le_of_test}
 use Rattle.road_types.proofs.ColumnPlaces.{column_at_some, IsColumn-from_number, length-columns_of}
-use Rattle.term_store.specs.declared.term.Term.{Term}
 
 -- a term between two columns
 some_rises : (low high j : ℕ) (a : ℤ) (b : Bool) → int_eq a (pos 0) ≡ b → low ≤ high → (low < j) × (j ≤ high)

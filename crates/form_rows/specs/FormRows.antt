@@ -1,5 +1,5 @@
 -- The terms of forms, what they ask, and a store of rows that grew by some.
-use Rattle.std.specs.Prelude.{◌≡◌, ℕ, List, [], ◌∷◌, ◌++◌, map, ℤ}
+use Rattle.std.specs.Prelude.{◌≡◌, List, ◌++◌, map, ℤ}
 use Rattle.road_types.specs.Forms.{Form}
 use Rattle.road_types.specs.RoadPrograms.{terms_of}
 use Rattle.road_types.specs.declared.road.Road.{Road}

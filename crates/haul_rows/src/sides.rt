@@ -1,7 +1,8 @@
 // What the rows for what is moved ask of the sums of their terms.
-ghost use Rattle.std.specs.Prelude.{◌≡◌, ◌+◌, ◌*◌, ◌-◌, ◌<◌, ◌≤◌, ◌++◌, pos, neg_ℤ, ◌≤ℤ◌};
+ghost use Rattle.std.specs.Prelude.{None, ◌≡◌, ◌+◌, ◌*◌, ◌-◌, ◌<◌, ◌≤◌, ◌++◌, pos, neg_ℤ, ◌≤ℤ◌};
 ghost use Rattle.algebra.specs.Numbered.{numbered, IsNumber};
 ghost use Rattle.form_rows.specs.FormRows.{asked};
+ghost use Rattle.road_types.specs.Faults.{road_fault};
 ghost use Rattle.road_types.specs.Accepted.{IsAccepted};
 ghost use Rattle.road_types.specs.Forms.{no_form};
 ghost use Rattle.road_types.specs.HaulForms.{balance_forms, pit_forms, transit_forms, stop_forms, order_forms, haul_forms};
@@ -15,7 +16,7 @@ use term_store::Side;
 /// What a row for what is moved asks of the sum of its terms: the side and the right side. The row's number counts from 1 through
 /// all rows of the road, those for heights and volumes first.
 pub fn haul_side(road: &Road, row: usize) -> (Side, i64)
-    requires accepted { IsAccepted road.now }
+    requires accepted { road_fault road.now ≡ None }
     requires row { row ≤ row_count road.now }
     requires behind { section_row_count road.now < row }
     ensures { result ≡ asked (numbered no_form (haul_forms road.now) (row - section_row_count road.now)) }

@@ -1,13 +1,14 @@
--- The road that a road file stands for, or the first of its faults: its text, document and contents, the road from these, and
--- the answer.
-use Rattle.std.specs.Prelude.{ℕ, ◌-◌, nat_le, ℤ, pos, negsuc, if◌then◌else◌, List, [], ◌∷◌, length, map, replicate, Option, Some, None, is_none, Result, Ok, Err}
+-- The road that a road file stands for, or the first of its faults: its text, document and contents, the section table that it
+-- names, the road from these, and the answer.
+use Rattle.std.specs.Prelude.{ℕ, ◌-◌, nat_le, ℤ, pos, negsuc, if◌then◌else◌, List, [], ◌∷◌, length, map, replicate, Option, Some, None, Result, Ok, Err}
 use Rattle.std.specs.Str.{is_utf8}
 use Rattle.toml.specs.Data.{Members}
 use Rattle.toml.specs.Parse.{parse_document}
 use Rattle.road_types.specs.Faults.{road_fault}
 use Rattle.road_types.specs.Limits.{longest_file}
 use Rattle.road_types.specs.declared.fault.Fault.{Fault}
-use Rattle.road_types.specs.declared.fault.Fault.TheVariants.{F0, F1, F2, F3, F4, F6}
+use Rattle.road_types.specs.declared.fault.Fault.TheVariants.{F1, F2, F3, F4, F6, F16}
+use Rattle.road_types.specs.declared.road.Section.{Section}
 use Rattle.road_types.specs.declared.road.Hop.{Hop}
 use Rattle.road_types.specs.declared.road.Pit.{Pit}
 use Rattle.road_types.specs.declared.road.PitKind.{PitKind}
@@ -15,6 +16,7 @@ use Rattle.road_types.specs.declared.road.PitKind.TheVariants.{Borrow, Waste}
 use Rattle.road_types.specs.declared.road.Access.{Access}
 use Rattle.road_types.specs.declared.road.Block.{Block}
 use Rattle.road_types.specs.declared.road.Road.{Road}
+use Rattle.section_tables.specs.Tables.{sections_of}
 use Rattle.road_file.specs.declared.file.FilePit.{FilePit}
 use Rattle.road_file.specs.declared.file.FileAccess.{FileAccess}
 use Rattle.road_file.specs.declared.file.FileBlock.{FileBlock}
@@ -49,6 +51,36 @@ contents_of bytes = do
   root ← where_kept (is_known root) F4 root
   file ← file_of root
   where_kept (file_in_range file) F6 file
+
+-- the name of the section table, where the sections stand in one
+unfoldable pub table_name_of : List ℕ → Result (Option (List ℕ)) Fault
+table_name_of bytes = do
+  file ← contents_of bytes
+  Ok file.table
+
+-- the sections that were found, or the fault of a table that is none
+abbrev pub of_found : Option (List Section) → Result (List Section) Fault
+of_found (Some sections) = Ok sections
+of_found None = Err F16
+
+-- the sections of a section table, which has to be given
+abbrev pub of_table : Option (List ℕ) → Result (List Section) Fault
+of_table (Some csv) = of_found (sections_of csv)
+of_table None = Err F16
+
+-- the sections of a file: its own, or those of the table that it names
+abbrev pub sections_by : Option (List ℕ) → List Section → Option (List ℕ) → Result (List Section) Fault
+sections_by None sections csv = Ok sections
+sections_by (Some name) sections csv = of_table csv
+
+unfoldable pub with_sections : RoadFile → List Section → RoadFile
+with_sections file sections = record file { sections = sections }
+
+-- what a file says, with the sections of its table in their place
+unfoldable pub completed : RoadFile → Option (List ℕ) → Result RoadFile Fault
+completed file csv = do
+  sections ← sections_by file.table file.sections csv
+  Ok (with_sections file sections)
 
 -- a whole number as a count or an entry's number; below 1 there is none, which is 0
 abbrev pub natural_or_zero : ℤ → ℕ
@@ -101,9 +133,9 @@ abbrev pub of_fault : Road → Option Fault → Result Road Fault
 of_fault road None = Ok road
 of_fault road (Some fault) = Err fault
 
--- the road of a file; a file that names a section table isn't built yet
-unfoldable pub road_of : List ℕ → Result Road Fault
-road_of bytes = do
+-- the road of a file and of what its section table holds, if that is given; a table that isn't named isn't looked at
+unfoldable pub road_of : List ℕ → Option (List ℕ) → Result Road Fault
+road_of bytes csv = do
   file ← contents_of bytes
-  file ← where_kept (is_none file.table) F0 file
-  of_fault (road_from file) (road_fault (road_from file))
+  whole ← completed file csv
+  of_fault (road_from whole) (road_fault (road_from whole))

@@ -11,4 +11,4 @@ mod ranges;
 mod reader;
 
 pub use error::RoadErr;
-pub use reader::read_road;
+pub use reader::{read_road, table_name};

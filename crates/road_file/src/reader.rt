@@ -1,10 +1,10 @@
 // From the bytes of a road file to its road.
-ghost use Rattle.std.specs.Prelude.{◌≡◌, IfOk, MatchResult, IsTrue, false, map, length, replicate, unwrap_or};
+ghost use Rattle.std.specs.Prelude.{◌≡◌, IfOk, MatchResult, IsTrue, false, map, length, replicate, unwrap_or, option_map};
 ghost use Rattle.std.specs.Str.{bytes_eq};
 ghost use Rattle.indexmap.specs.IndexMap.{get_by};
 ghost use Rattle.road_types.specs.Faults.{road_fault};
 ghost use Rattle.road_file.specs.Step.{MayAnswer};
-ghost use Rattle.road_file.specs.RoadOf.{natural_or_zero, kind_of, pit_from, access_to, access_from, block_from, hops_between, road_from, contents_of, of_fault, road_of};
+ghost use Rattle.road_file.specs.RoadOf.{natural_or_zero, kind_of, pit_from, access_to, access_from, block_from, hops_between, road_from, contents_of, table_name_of, of_table, sections_by, with_sections, completed, of_fault, road_of};
 ghost use Rattle.road_file.specs.inside.Numbering.{IsNumbering};
 
 use crate::document::document;
@@ -12,7 +12,8 @@ use crate::file::{FileAccess, FileBlock, FilePit, RoadFile};
 use crate::ranges::{file_in_range, is_borrow};
 use crate::{RoadErr, keys};
 use indexmap::IndexMap;
-use road_types::{Access, Block, Fault, Hop, Listed, Pit, PitKind, Road};
+use road_types::{Access, Block, Fault, Hop, Listed, Pit, PitKind, Road, Section, Text};
+use section_tables::{TableErr, read_sections};
 use std::alloc::{AllocError, Global};
 
 /// A whole number as a count or an entry's number; 0, which is none, below 1.
@@ -222,6 +223,41 @@ fn contents(alloc: Global, bytes: &[u8]) -> Result<RoadFile, RoadErr>
     Ok(file)
 }
 
+/// The sections of a section table, which has to be given.
+fn table_sections(alloc: Global, csv: Option<&[u8]>) -> Result<Listed<Section>, RoadErr>
+    ensures { MayAnswer result (of_table (option_map (λ bytes. bytes.now) csv.entry)) }
+{
+    let Some(bytes) = csv else {
+        return Err(RoadErr::Refused(Fault::F16));
+    };
+    match read_sections(alloc, bytes) {
+        Ok(sections) => Ok(sections),
+        Err(TableErr::Refused) => Err(RoadErr::Refused(Fault::F16)),
+        Err(TableErr::NoMemory) => Err(RoadErr::NoMemory),
+    }
+}
+
+#[tactic(auto, unfolding(crate::specs::RoadOf::with_sections))]
+fn with_sections(file: RoadFile, sections: Listed<Section>) -> RoadFile
+    ensures { result ≡ with_sections file sections }
+{
+    let mut file = file;
+    file.sections = sections;
+    file
+}
+
+/// What a file says, with the sections of its table in their place.
+#[tactic(auto, unfolding(crate::specs::RoadOf::completed, crate::specs::RoadOf::with_sections))]
+fn completed(alloc: Global, file: RoadFile, csv: Option<&[u8]>) -> Result<RoadFile, RoadErr>
+    ensures { MayAnswer result (completed file (option_map (λ bytes. bytes.now) csv.entry)) }
+{
+    if file.table.is_none() {
+        return Ok(file);
+    }
+    let sections = table_sections(alloc, csv)?;
+    Ok(with_sections(file, sections))
+}
+
 /// Refused by the first fault of a road's record.
 fn accepted(road: Road) -> Result<Road, RoadErr>
     ensures answers { MayAnswer result (of_fault road (road_fault road)) }
@@ -233,16 +269,27 @@ fn accepted(road: Road) -> Result<Road, RoadErr>
     }
 }
 
-/// Reads a road file of at most 4 MiB. `_csv` is what its section table holds, which isn't looked at yet.
+/// The name of the section table of a road file of at most 4 MiB; `None` where the sections stand in the file itself.
 ///
-/// Refused by the first fault of the file, in the order F1 to F6, F0 where a section table is named, F7 to F15;
-/// a road that is answered has none of them. `NoMemory` where memory is wanting.
+/// Refused by the first of the faults F1 to F6. `NoMemory` where memory is wanting.
+#[tactic(auto, unfolding(crate::specs::RoadOf::table_name_of))]
+pub fn table_name(alloc: Global, bytes: &[u8]) -> Result<Option<Text>, RoadErr>
+    ensures { MayAnswer result (table_name_of bytes.now) }
+{
+    let file = contents(alloc, bytes)?;
+    Ok(file.table)
+}
+
+/// Reads a road file of at most 4 MiB. `csv` is what its section table holds; it isn't looked at where the file names none.
+///
+/// Refused by the first fault of the file, in the order F1 to F6, F16, F7 to F15, F17, F18; a road that is answered has none of them.
+/// `NoMemory` where memory is wanting.
 #[tactic(auto, unfolding(crate::specs::RoadOf::road_of))]
-pub fn read_road(alloc: Global, bytes: &[u8], _csv: Option<&[u8]>) -> Result<Road, RoadErr>
-    ensures answers { MayAnswer result (road_of bytes.now) }
+pub fn read_road(alloc: Global, bytes: &[u8], csv: Option<&[u8]>) -> Result<Road, RoadErr>
+    ensures answers { MayAnswer result (road_of bytes.now (option_map (λ bytes. bytes.now) csv.entry)) }
     ensures accepted { IfOk result (λ road. road_fault road ≡ None) }
 {
     let file = contents(alloc, bytes)?;
-    keep(file.table.is_none(), Fault::F0)?;
+    let file = completed(alloc, file, csv)?;
     accepted(road(alloc, file)?)
 }

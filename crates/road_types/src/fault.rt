@@ -1,10 +1,9 @@
 // The faults of a road file.
 use std::fmt;
 
-/// A fault of a road file by its number; `F0` stands for a road that isn't built yet.
+/// A fault of a road file by its number.
 #[derive(Clone, Copy, Debug, PartialEq, Eq)]
 pub enum Fault {
-    F0,
     F1,
     F2,
     F3,

@@ -39,7 +39,8 @@ pub fn is_curve(x: i64) -> bool
     is_between(0, 1_000_000, x)
 }
 
-fn is_measure(x: i64) -> bool
+/// Whether a thickness, in mm, or an area, in m², is in -10000000..=10000000.
+pub fn is_measure(x: i64) -> bool
     ensures { result ≡ is_measure x }
 {
     is_between(-10_000_000, 10_000_000, x)

@@ -18,20 +18,20 @@ given_by : (told : Option Files) (name : List ℕ) (most : ℕ) → (given : Opt
 given_by None name most = (None, tt)
 given_by (Some files) name most = (option_map (take most) (get files name), refl)
 
-none_is_no_road : (bytes : Option (List ℕ)) (road : Road) → road_due bytes None ≡ Ok road → bytes ≡ None → ⊥
+none_is_no_road : (bytes table : Option (List ℕ)) (road : Road) → road_due bytes table ≡ Ok road → bytes ≡ None → ⊥
 unfolding road_due
-none_is_no_road None road p e = cc
-none_is_no_road (Some bytes) road p e = cc
+none_is_no_road None table road p e = cc
+none_is_no_road (Some bytes) table road p e = cc
 
 made_on_road : (told : Option Files) (command : Command) (before mid now : ℕ) (road : Road) (end : End)
     → IsRoadRead told command.road before mid (Ok road) → IsMadeOnRoad told command road end → IsMade told command before now end
 made_on_road told command before mid now road end r m = record {
   due = record {
-    given = record { road = r.bytes; table = None; other = m.bytes };
-    are_given = record { road = r.is_given; table = refl; other = m.is_given };
+    given = record { road = r.bytes; table = r.table; other = m.bytes };
+    are_given = record { road = r.is_given; table = r.table_given; other = m.is_given };
     follows = subst (λ (x : Result Road End). Follows command.verb x m.bytes end) (sym r.makes) m.follows;
   };
-  no_fault = λ e. absurd (none_is_no_road r.bytes road r.makes e);
+  no_fault = λ e. absurd (none_is_no_road r.bytes r.table road r.makes e);
 }
 
 pub all_made_on_road : (told mid : Option Files) (command : Command) (before between now : ℕ) (road : Road) (result : Result Ending Lost)
@@ -47,8 +47,8 @@ made_early told command before now ending r =
     let other = given_by told command.other (other_limit command.verb) in
     record {
       due = record {
-        given = record { road = r.bytes; table = None; other = other.0 };
-        are_given = record { road = r.is_given; table = refl; other = other.1 };
+        given = record { road = r.bytes; table = r.table; other = other.0 };
+        are_given = record { road = r.is_given; table = r.table_given; other = other.1 };
         follows = subst (λ (x : Result Road End). Follows command.verb x other.0 (end_of ending)) (sym r.makes) refl;
       };
       no_fault = r.no_fault;

@@ -4,7 +4,7 @@ use Rattle.std.proofs.Common.{◌≡◌, get_or, arith, sym, refl, ap, subst, �
 use Rattle.outside.specs.Files.{Files}
 use Rattle.road_types.specs.declared.fault.Fault.{Fault}
 use Rattle.road_types.specs.declared.road.Road.{Road}
-use Rattle.road_file.specs.RoadOf.{road_of}
+use Rattle.road_file.specs.RoadOf.{table_name_of, road_of}
 use Rattle.plan_rules.specs.declared.plan.Plan.{Plan}
 use Rattle.plan_rules.specs.declared.verdict.Rule.{Rule}
 use Rattle.plan_rules.specs.declared.verdict.Rule.TheVariants.{P1, P2, P3, P4, P5, P6, P7, P8, P9}
@@ -18,10 +18,10 @@ use Rattle.roadopt_program.specs.declared.forms.Verb.{Verb}
 use Rattle.roadopt_program.specs.declared.forms.Verb.TheVariants.{Judge}
 use Rattle.roadopt_program.specs.declared.status.Status.{Status}
 use Rattle.roadopt_program.specs.declared.status.Status.TheVariants.{Done, PlanBroken, PlanRefused, Missing}
-use Rattle.roadopt_program.specs.Due.{keeps_rules, road_due, FollowsRoad, Follows, IsDue, Due}
+use Rattle.roadopt_program.specs.Due.{◌>>=◌, keeps_rules, is_table_there, road_due, FollowsRoad, Follows, IsDue, Due}
 use Rattle.roadopt_program.specs.Ends.{End, missing_end}
 use Rattle.roadopt_program.specs.Forms.{Command, command_of}
-use Rattle.roadopt_program.specs.Inputs.{Given}
+use Rattle.roadopt_program.specs.Inputs.{Given, IsGivenIfNamed, table_named, road_limit}
 use Rattle.roadopt_program.specs.Judging.{PrintsFraction, PrintsFirstBroken, PrintsRefusedLine, OfPlan, JudgesText, OfPlanBytes}
 use Rattle.roadopt_program.specs.Printed.{plan_refused_line, broken_line, admissible_line}
 use Rattle.roadopt_program.specs.Runs.{HasOneEnd}
@@ -126,6 +126,10 @@ same_end a b p q r = λ i. record { status = p i; output = q i; file = r i }
 same_given : (g h : Given) → g.road ≡ h.road → g.table ≡ h.table → g.other ≡ h.other → g ≡ h
 same_given g h p q r = λ i. record { road = p i; table = q i; other = r i }
 
+same_if_named : (files : Files) (name : Option (List ℕ)) (most : ℕ) (a b : Option (List ℕ)) → IsGivenIfNamed (Some files) name most a → IsGivenIfNamed (Some files) name most b → a ≡ b
+same_if_named files None most a b p q = p ∙ sym q
+same_if_named files (Some name) most a b p q = p ∙ sym q
+
 same_on_road : (verb : Verb) (road : Road) (other : Option (List ℕ)) (a b : End) → FollowsRoad verb road other a → FollowsRoad verb road other b → a ≡ b
 same_on_road Judge road None a b p q = p ∙ sym q
 same_on_road Judge road (Some bytes) a b p q =
@@ -138,7 +142,10 @@ same_after verb (Ok road) other a b p q = same_on_road verb road other a b p q
 
 same_due : (files : Files) (command : Command) (a b : End) → IsDue (Some files) command a → IsDue (Some files) command b → a ≡ b
 same_due files command a b p q =
-    let same : q.given ≡ p.given = same_given q.given p.given (q.are_given.road ∙ sym p.are_given.road) (q.are_given.table ∙ sym p.are_given.table) (q.are_given.other ∙ sym p.are_given.other) in
+    let road : q.given.road ≡ p.given.road = q.are_given.road ∙ sym p.are_given.road in
+    let named = subst (λ (r : Option (List ℕ)). IsGivenIfNamed (Some files) (table_named r) road_limit q.given.table) road q.are_given.table in
+    let table = same_if_named files (table_named p.given.road) road_limit q.given.table p.given.table named p.are_given.table in
+    let same : q.given ≡ p.given = same_given q.given p.given road table (q.are_given.other ∙ sym p.are_given.other) in
     same_after command.verb (road_due p.given.road p.given.table) p.given.other a b p.follows
     (subst (λ (g : Given). Follows command.verb (road_due g.road g.table) g.other b) same q.follows)
 
@@ -171,10 +178,18 @@ unfolding may_be_due
 kept_status verb (Err fault) other end h = ap (λ e. may_be_due e.status) h
 kept_status verb (Ok road) other end h = road_status verb road other end h
 
+named_status : (verb : Verb) (bytes : List ℕ) (named : Result (Option (List ℕ)) Fault) (table other : Option (List ℕ)) (end : End)
+    → Follows verb (keeps_rules named >>= (λ name. is_table_there name table >>= (λ csv. keeps_rules (road_of bytes csv)))) other end → IsTrue (may_be_due end.status)
+unfolding may_be_due
+named_status verb bytes (Err fault) table other end h = ap (λ e. may_be_due e.status) h
+named_status verb bytes (Ok None) table other end h = kept_status verb (road_of bytes None) other end h
+named_status verb bytes (Ok (Some name)) None other end h = ap (λ e. may_be_due e.status) h
+named_status verb bytes (Ok (Some name)) (Some csv) other end h = kept_status verb (road_of bytes (Some csv)) other end h
+
 pub due_status : (verb : Verb) (road table other : Option (List ℕ)) (end : End) → Follows verb (road_due road table) other end → IsTrue (may_be_due end.status)
 unfolding road_due may_be_due
 due_status verb None table other end h = ap (λ e. may_be_due e.status) h
-due_status verb (Some bytes) table other end h = kept_status verb (road_of bytes) other end h
+due_status verb (Some bytes) table other end h = named_status verb bytes (table_name_of bytes) table other end h
 
 bytes_missing : (road : Road) (bytes : List ℕ) (s : Status) (l : List ℕ) → OfPlanBytes road bytes s l → s ≡ Missing → ⊥
 bytes_missing road bytes PlanRefused l h e = omega (arith, ap exit_status e)
@@ -190,8 +205,15 @@ kept_missing : (verb : Verb) (made : Result Road Fault) (other : Option (List �
 kept_missing verb (Err fault) other end h e = absurd (omega (arith, ap (λ x. exit_status x.status) h, ap exit_status e))
 kept_missing verb (Ok road) other end h e = road_missing verb road other end h e
 
+named_missing : (verb : Verb) (bytes : List ℕ) (named : Result (Option (List ℕ)) Fault) (table other : Option (List ℕ)) (end : End)
+    → Follows verb (keeps_rules named >>= (λ name. is_table_there name table >>= (λ csv. keeps_rules (road_of bytes csv)))) other end → end.status ≡ Missing → end ≡ missing_end
+named_missing verb bytes (Err fault) table other end h e = absurd (omega (arith, ap (λ x. exit_status x.status) h, ap exit_status e))
+named_missing verb bytes (Ok None) table other end h e = kept_missing verb (road_of bytes None) other end h e
+named_missing verb bytes (Ok (Some name)) None other end h e = h
+named_missing verb bytes (Ok (Some name)) (Some csv) other end h e = kept_missing verb (road_of bytes (Some csv)) other end h e
+
 -- where the end of a missing file is due, nothing is printed and nothing is written
 pub due_missing : (verb : Verb) (road table other : Option (List ℕ)) (end : End) → Follows verb (road_due road table) other end → end.status ≡ Missing → end ≡ missing_end
 unfolding road_due
 due_missing verb None table other end h e = h
-due_missing verb (Some bytes) table other end h e = kept_missing verb (road_of bytes) other end h e
+due_missing verb (Some bytes) table other end h e = named_missing verb bytes (table_name_of bytes) table other end h e

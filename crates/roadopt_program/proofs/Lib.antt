@@ -3,3 +3,4 @@ mod FormsLemmas
 mod StatusLemmas
 pub mod DueLaws
 pub mod RunLaws
+mod RoadsLemmas

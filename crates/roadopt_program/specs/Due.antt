@@ -6,7 +6,7 @@ use Rattle.std.specs.Prelude.{◌≡◌, ℕ, Option, Some, None, Result, Ok, Er
 use Rattle.outside.specs.Files.{Files}
 use Rattle.road_types.specs.declared.fault.Fault.{Fault}
 use Rattle.road_types.specs.declared.road.Road.{Road}
-use Rattle.road_file.specs.RoadOf.{road_of}
+use Rattle.road_file.specs.RoadOf.{table_name_of, road_of}
 use Rattle.roadopt_program.specs.declared.forms.Verb.{Verb}
 use Rattle.roadopt_program.specs.declared.forms.Verb.TheVariants.{Judge}
 use Rattle.roadopt_program.specs.declared.status.Status.TheVariants.{RoadRefused}
@@ -16,15 +16,35 @@ use Rattle.roadopt_program.specs.Inputs.{Given, AreGiven}
 use Rattle.roadopt_program.specs.Judging.{Judges}
 use Rattle.roadopt_program.specs.Printed.{road_refused_line}
 
--- a road, or the end that is due for its first fault
-abbrev pub keeps_rules : Result Road Fault → Result Road End
-keeps_rules (Ok road) = Ok road
+-- the first step, and with its value the next one; the end that is due early ends them
+infixl 10 ◌>>=◌
+abbrev pub ◌>>=◌ : {A B : Type 0} → Result A End → (A → Result B End) → Result B End
+(Ok x) >>= next = next x
+(Err early) >>= next = Err early
+
+-- what was read of a road's file, or the end that is due for its first fault
+abbrev pub keeps_rules : {A : Type 0} → Result A Fault → Result A End
+keeps_rules (Ok x) = Ok x
 keeps_rules (Err fault) = Err (said RoadRefused (road_refused_line fault))
 
--- the road of a file and of the section table that it names, of which none is read yet
+-- a file that has to be there
+abbrev pub is_there : Option (List ℕ) → Result (List ℕ) End
+is_there (Some bytes) = Ok bytes
+is_there None = Err missing_end
+
+-- a section table has to be there where one is named
+abbrev pub is_table_there : Option (List ℕ) → Option (List ℕ) → Result (Option (List ℕ)) End
+is_table_there None table = Ok None
+is_table_there (Some name) (Some csv) = Ok (Some csv)
+is_table_there (Some name) None = Err missing_end
+
+-- the road of a file and of the section table that it names: its faults up to the table's name come before the table
 unfoldable pub road_due : Option (List ℕ) → Option (List ℕ) → Result Road End
-road_due None table = Err missing_end
-road_due (Some bytes) table = keeps_rules (road_of bytes)
+road_due road table = do
+  bytes ← is_there road
+  name ← keeps_rules (table_name_of bytes)
+  csv ← is_table_there name table
+  keeps_rules (road_of bytes csv)
 
 -- the end of each command on an accepted road, for what its further file gives
 abbrev pub FollowsRoad : Verb → Road → Option (List ℕ) → End → Type 0

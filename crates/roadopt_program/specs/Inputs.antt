@@ -1,12 +1,15 @@
 -- The bytes of the files that a run reads.
 --     road_limit      how many bytes of a road or a plan are read at the most
 --     IsGiven told name most given      what a read of the named file gives: its bytes up to the limit, or none where there is no such file
+--     table_named road      the name of the section table in what the road's file gives
 --     Given, AreGiven told command given      the same for all the files of a command
-use Rattle.std.specs.Prelude.{◌≡◌, ℕ, ◌+◌, Option, None, List, IfSome, take}
+use Rattle.std.specs.Prelude.{◌≡◌, ℕ, ◌+◌, Option, Some, None, Result, Ok, Err, List, IfSome, take}
 use Rattle.std.specs.Option.{option_map}
 use Rattle.std.specs.FinMap.{get}
 use Rattle.outside.specs.Files.{Files}
 use Rattle.road_types.specs.Limits.{longest_file}
+use Rattle.road_types.specs.declared.fault.Fault.{Fault}
+use Rattle.road_file.specs.RoadOf.{table_name_of}
 use Rattle.roadopt_program.specs.declared.forms.Verb.{Verb}
 use Rattle.roadopt_program.specs.declared.forms.Verb.TheVariants.{Judge}
 use Rattle.roadopt_program.specs.Forms.{Command}
@@ -23,14 +26,29 @@ other_limit Judge = road_limit
 abbrev pub IsGiven : Option Files → List ℕ → ℕ → Option (List ℕ) → Type 0
 IsGiven told name most given = IfSome told (λ files. given ≡ option_map (take most) (get files name))
 
+-- the name in what was read of a road file; a refused file names none
+abbrev pub name_read : Result (Option (List ℕ)) Fault → Option (List ℕ)
+name_read (Ok name) = name
+name_read (Err fault) = None
+
+-- the name of the section table, where a road's file is there and names one
+abbrev pub table_named : Option (List ℕ) → Option (List ℕ)
+table_named None = None
+table_named (Some road) = name_read (table_name_of road)
+
+-- the same of a file that is read where one is named; where none is, nothing is given
+abbrev pub IsGivenIfNamed : Option Files → Option (List ℕ) → ℕ → Option (List ℕ) → Type 0
+IsGivenIfNamed told None most given = given ≡ None
+IsGivenIfNamed told (Some name) most given = IsGiven told name most given
+
 -- what the files of a command hold, none where there is no such file
 pub record Given : Type 0 where
   pub road : Option (List ℕ)
   pub table : Option (List ℕ)
   pub other : Option (List ℕ)
 
--- these are the files' bytes; no section table is read yet
+-- these are the files' bytes; the section table is the one that the road's file names
 pub record AreGiven (told : Option Files) (command : Command) (given : Given) : Type 0 where
   pub road : IsGiven told command.road road_limit given.road
-  pub table : given.table ≡ None
+  pub table : IsGivenIfNamed told (table_named given.road) road_limit given.table
   pub other : IsGiven told command.other (other_limit command.verb) given.other

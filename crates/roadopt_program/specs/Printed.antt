@@ -4,14 +4,13 @@
 use Rattle.std.specs.Prelude.{ℕ, List, ◌++◌, codes}
 use Rattle.std.specs.Fmt.{decimal}
 use Rattle.road_types.specs.declared.fault.Fault.{Fault}
-use Rattle.road_types.specs.declared.fault.Fault.TheVariants.{F0, F1, F2, F3, F4, F5, F6, F7, F8, F9, F10, F11, F12, F13, F14, F15, F16, F17, F18}
+use Rattle.road_types.specs.declared.fault.Fault.TheVariants.{F1, F2, F3, F4, F5, F6, F7, F8, F9, F10, F11, F12, F13, F14, F15, F16, F17, F18}
 use Rattle.plan_rules.specs.declared.verdict.Rule.{Rule}
 use Rattle.plan_rules.specs.declared.verdict.Rule.TheVariants.{P1, P2, P3, P4, P5, P6, P7, P8, P9}
 use Rattle.numbers.specs.Fractions.{Fraction, fraction_text}
 
 -- the name of a fault
 abbrev pub fault_name : Fault → List ℕ
-fault_name F0 = codes "F0"
 fault_name F1 = codes "F1"
 fault_name F2 = codes "F2"
 fault_name F3 = codes "F3"

@@ -13,7 +13,6 @@ fn fault_name(fault: Fault) -> &'static str
     ensures { result.now ≡ fault_name fault }
 {
     match fault {
-        Fault::F0 => "F0",
         Fault::F1 => "F1",
         Fault::F2 => "F2",
         Fault::F3 => "F3",

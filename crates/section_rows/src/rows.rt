@@ -1,6 +1,7 @@
 // All rows for heights and volumes.
-ghost use Rattle.std.specs.Prelude.{◌≡◌, ◌+◌, ◌≤◌, length, OnOk, OnErr};
+ghost use Rattle.std.specs.Prelude.{None, ◌≡◌, ◌+◌, ◌≤◌, length, OnOk, OnErr};
 ghost use Rattle.form_rows.specs.FormRows.{forms_terms, Grew};
+ghost use Rattle.road_types.specs.Faults.{road_fault};
 ghost use Rattle.road_types.specs.Accepted.{IsAccepted};
 ghost use Rattle.road_types.specs.Columns.{column_count};
 ghost use Rattle.road_types.specs.Ranges.{AreHeightRanges};
@@ -24,7 +25,7 @@ pub fn section_rows(
     ranges: &Ranges,
     rows: &mut Rows<i64>,
 ) -> Result<(), AllocError>
-    requires accepted { IsAccepted road.now }
+    requires accepted { road_fault road.now ≡ None }
     requires ranges { AreHeightRanges road.now ranges.now.heights }
     requires free { length rows.old.rows + section_row_count road.now ≤ rows.old.room }
     requires width { column_count road.now ≤ rows.old.width }

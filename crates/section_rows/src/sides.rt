@@ -1,7 +1,8 @@
 // What the rows for heights and volumes ask of the sums of their terms.
-ghost use Rattle.std.specs.Prelude.{◌≡◌, ◌+◌, ◌*◌, ◌-◌, ◌++◌, length};
+ghost use Rattle.std.specs.Prelude.{None, ◌≡◌, ◌+◌, ◌*◌, ◌-◌, ◌++◌, length};
 ghost use Rattle.algebra.specs.Numbered.{numbered, IsNumber};
 ghost use Rattle.form_rows.specs.FormRows.{asked};
+ghost use Rattle.road_types.specs.Faults.{road_fault};
 ghost use Rattle.road_types.specs.Accepted.{IsAccepted};
 ghost use Rattle.road_types.specs.Forms.{no_form};
 ghost use Rattle.road_types.specs.Ranges.{AreHeightRanges};
@@ -19,7 +20,7 @@ use term_store::Side;
 /// What the row with this number, from 1, of those for heights and volumes asks of the sum of its terms: the side and the right
 /// side.
 pub fn section_side(road: &Road, ranges: &Ranges, row: usize) -> (Side, i64)
-    requires accepted { IsAccepted road.now }
+    requires accepted { road_fault road.now ≡ None }
     requires ranges { AreHeightRanges road.now ranges.now.heights }
     requires row { IsNumber row (section_row_count road.now) }
     ensures { result ≡ asked (numbered no_form (section_forms road.now (lines_in road.now ranges.now.heights)) row) }

@@ -1,7 +1,7 @@
 -- What the private functions of a run hand on to each other.
---     end_of, MakesRoad, IsRoadRead, IsMadeOnRoad, IsMade      what was made is what is due
+--     end_of, MakesRoad, IsRoadMade, IsRoadRead, IsMadeOnRoad, IsMade      what was made is what is due
 --     Prints      what became of a due end; IsCarriedOut, IsGivenUp, Outcome      of a whole run
-use Rattle.std.specs.Prelude.{◌≡◌, ℕ, ◌⊎◌, IsTrue, Option, None, Result, Ok, Err, List}
+use Rattle.std.specs.Prelude.{◌≡◌, ℕ, ◌⊎◌, IsTrue, Option, Some, None, Result, Ok, Err, List}
 use Rattle.outside.specs.Faults.{HasRisen}
 use Rattle.outside.specs.Files.{Files}
 use Rattle.outside.specs.Written.{GrewBy, GrewByPrefix}
@@ -12,7 +12,7 @@ use Rattle.roadopt_program.specs.declared.status.Status.TheVariants.{ReadFault, 
 use Rattle.roadopt_program.specs.Due.{road_due, FollowsRoad, IsDue}
 use Rattle.roadopt_program.specs.Ends.{End, said, Output, after_fault}
 use Rattle.roadopt_program.specs.Forms.{Command}
-use Rattle.roadopt_program.specs.Inputs.{road_limit, other_limit, IsGiven}
+use Rattle.roadopt_program.specs.Inputs.{road_limit, other_limit, IsGiven, IsGivenIfNamed, table_named}
 use Rattle.roadopt_program.specs.Statuses.{is_silent}
 
 -- the end that was made; none writes a file yet
@@ -31,11 +31,19 @@ abbrev pub MakesRoad : Result Road End → Result Road Ending → Type 0
 MakesRoad due (Ok road) = due ≡ Ok road
 MakesRoad due (Err ending) = due ≡ Err (end_of ending)
 
--- it was made of what the road's file gives; where that isn't there, no read failed
+-- it was made of the bytes of a road's file and of what the table that they name gives
+pub record IsRoadMade (told : Option Files) (bytes : List ℕ) (made : Result Road Ending) : Type 0 where
+  pub table : Option (List ℕ)
+  pub table_given : IsGivenIfNamed told (table_named (Some bytes)) road_limit table
+  pub makes : MakesRoad (road_due (Some bytes) table) made
+
+-- it was made of what the road's file and its table give; where the road's isn't there, no read failed
 pub record IsRoadRead (told : Option Files) (name : List ℕ) (reads_before reads_now : ℕ) (made : Result Road Ending) : Type 0 where
   pub bytes : Option (List ℕ)
   pub is_given : IsGiven told name road_limit bytes
-  pub makes : MakesRoad (road_due bytes None) made
+  pub table : Option (List ℕ)
+  pub table_given : IsGivenIfNamed told (table_named bytes) road_limit table
+  pub makes : MakesRoad (road_due bytes table) made
   pub no_fault : bytes ≡ None → reads_now ≡ reads_before
 
 -- the end was made of an accepted road and of what the further file gives

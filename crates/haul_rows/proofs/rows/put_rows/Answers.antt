@@ -1,8 +1,7 @@
-use Rattle.std.proofs.Common.{◌≡◌, ℕ, ◌+◌, ◌++◌, arith}
+use Rattle.std.proofs.Common.{◌++◌, arith}
 use Rattle.road_types.specs.HaulForms.{balance_forms, pit_forms, transit_forms, stop_forms, order_forms}
-use Rattle.road_types.proofs.FormCounts.{length-balance_forms, length-pit_forms, length-transit_forms, length-stop_forms, length-order_forms}
+use Rattle.road_types.proofs.FormCounts.{length-balance_forms, length-pit_forms, length-transit_forms, length-stop_forms}
 use Rattle.form_rows.proofs.GrewLemmas.{grew_groups, group_count}
-use Rattle.form_rows.specs.FormRows.{forms_terms, Grew}
 use Rattle.haul_rows.proofs.rows.put_rows.Goals as goal
 
 pub balance_rows-requires-clause-free : goal.balance_rows-requires-clause-free

@@ -1,12 +1,7 @@
-use Rattle.std.proofs.Common.{◌≡◌, ℕ, ◌+◌, ◌*◌, ◌<◌, ◌≤◌, Bool, ◌&&◌, cond, List, [], ◌∷◌, ◌++◌, length, get_or, drop, arith, ap, sym, ◌∙◌, refl, FitsSigned, rules}
-use Rattle.std.specs.Prelude.{ℤ, pos, neg_ℤ, ◌+ℤ◌, ◌≤ℤ◌, int_le, fold, unsigned_abs}
+use Rattle.std.proofs.Common.{◌≡◌, Bool, ◌&&◌, cond, [], ◌∷◌, ap, ◌∙◌, FitsSigned, rules}
+use Rattle.std.specs.Prelude.{ℤ, ◌+ℤ◌, int_le, fold}
 use Rattle.std.specs.Int.{int_min, int_max, w64}
-use Rattle.std.proofs.lemmas.Int.{ints, to_z-of_z}
-use Rattle.road_types.specs.Lines.{areas_between}
-use Rattle.road_types.specs.declared.road.Slab.{Slab}
-use Rattle.road_types.proofs.ListRests.{solid_at}
-use Rattle.section_rows.specs.inside.Scans.{area_within, IsScan}
-use Rattle.section_rows.proofs.ScanLemmas.{fold_both, scan_more, scan_none, breakpoint_span}
+use Rattle.std.proofs.lemmas.Int.{to_z-of_z}
 use Rattle.section_rows.proofs.lines.with_slab.Goals as goal
 
 pub returns-clause-least : goal.returns-clause-least

@@ -1,10 +1,9 @@
-use Rattle.std.proofs.Common.{◌≡◌, ℕ, zero, suc, ◌+◌, ◌-◌, ◌*◌, ◌/◌, ◌%◌, ◌<◌, ◌≤◌, List, [], ◌∷◌, ◌++◌, length, arith, ap, sym, ◌∙◌, refl, FitsSigned, rules}
-use Rattle.std.specs.Prelude.{ℤ, pos, neg_ℤ, unsigned_abs}
-use Rattle.std.specs.Int.{w64, w128}
-use Rattle.std.proofs.lemmas.Int.{ints, to_z-of_z}
-use Rattle.road_types.specs.Road.{section, ground}
+use Rattle.std.proofs.Common.{FitsSigned, rules}
+use Rattle.std.specs.Int.{w64}
+use Rattle.std.proofs.lemmas.Int.{to_z-of_z}
+use Rattle.road_types.specs.Road.{section}
 use Rattle.road_types.specs.Ranges.{height_range}
-use Rattle.section_rows.proofs.ScanLemmas.{breakpoint_span, net_span}
+use Rattle.section_rows.proofs.ScanLemmas.{breakpoint_span}
 use Rattle.section_rows.proofs.rights.lower_end.Goals as goal
 
 pub returns-clause-small : goal.returns-clause-small

@@ -1,9 +1,9 @@
-use Rattle.std.proofs.Common.{◌≡◌, ℕ, zero, suc, ◌+◌, ◌-◌, ◌*◌, ◌/◌, ◌%◌, ◌<◌, ◌≤◌, List, [], ◌∷◌, ◌++◌, length, arith, ap, sym, ◌∙◌, refl, FitsSigned, rules}
-use Rattle.std.specs.Prelude.{ℤ, pos, neg_ℤ, unsigned_abs}
+use Rattle.std.proofs.Common.{◌≡◌, arith, FitsSigned, rules}
+use Rattle.std.specs.Prelude.{pos}
 use Rattle.std.specs.Int.{w64, w128}
-use Rattle.std.proofs.lemmas.Int.{ints, to_z-of_z, fits_signed_from_abs}
+use Rattle.std.proofs.lemmas.Int.{to_z-of_z, fits_signed_from_abs}
 use Rattle.road_types.specs.Volumes.{net_volume}
-use Rattle.section_rows.proofs.ScanLemmas.{breakpoint_span, net_span}
+use Rattle.section_rows.proofs.ScanLemmas.{net_span}
 use Rattle.section_rows.proofs.rights.volume_at.Goals as goal
 
 pub overflow_cast-result : goal.overflow_cast-result

@@ -1,9 +1,8 @@
-use Rattle.std.proofs.Common.{◌≡◌, ℕ, ◌+◌, ◌++◌, arith}
+use Rattle.std.proofs.Common.{◌++◌, arith}
 use Rattle.road_types.specs.SectionForms.{offset_forms, continuity_forms, grade_end_forms, fixed_forms, volume_forms}
 use Rattle.road_types.specs.RoadPrograms.{lines_in}
 use Rattle.road_types.proofs.FormCounts.{length-offset_forms, length-continuity_forms, length-grade_end_forms, length-fixed_forms}
 use Rattle.form_rows.proofs.GrewLemmas.{grew_groups, group_count}
-use Rattle.form_rows.specs.FormRows.{forms_terms, Grew}
 use Rattle.section_rows.proofs.rows.put_rows.Goals as goal
 
 pub offset_rows-requires-clause-free : goal.offset_rows-requires-clause-free

@@ -1,22 +1,15 @@
-use Rattle.std.proofs.Common.{◌≡◌, ℕ, zero, suc, ◌+◌, ◌-◌, ◌*◌, ◌^◌, ◌/◌, ◌%◌, ◌<◌, ◌≤◌, List, [], ◌∷◌, ◌++◌, length, arith, ap, sym, ◌∙◌, refl, FitsSigned, rules}
-use Rattle.std.specs.Prelude.{ℤ, pos, neg_ℤ, unsigned_abs}
+use Rattle.std.proofs.Common.{◌+◌, ◌-◌, ◌*◌, ◌/◌, ◌%◌, arith, ap, sym, ◌∙◌, refl, FitsSigned, rules}
+use Rattle.std.specs.Prelude.{neg_ℤ}
 use Rattle.std.specs.Int.{w64}
 use Rattle.std.proofs.lemmas.Int.{ints, to_z-of_z}
-use Rattle.algebra.specs.Numbered.{numbered, IsNumber}
-use Rattle.road_types.specs.Forms.{Form, no_form, negated, between_forms}
-use Rattle.road_types.specs.Heights.{segment_length}
-use Rattle.road_types.specs.Lines.{Lines}
-use Rattle.road_types.specs.Road.{section, fixed_point, section_count, segment_count, fixed_count, ground}
-use Rattle.road_types.specs.RoadPrograms.{lines_in}
-use Rattle.road_types.specs.SectionForms.{grade_entries, station_entries, offset_form, offset_forms, next_height_form, next_grade_form, continuity_forms, grade_end_forms, fixed_forms, lines_forms, volume_forms}
-use Rattle.road_types.specs.declared.road.Road.{Road}
+use Rattle.algebra.specs.Numbered.{IsNumber}
+use Rattle.road_types.specs.Forms.{negated, between_forms}
+use Rattle.road_types.specs.Road.{fixed_point, fixed_count}
+use Rattle.road_types.specs.SectionForms.{station_entries}
 use Rattle.road_types.specs.declared.road.Fixed.{Fixed}
-use Rattle.road_types.proofs.FormCounts.{length-offset_forms, length-continuity_forms, length-grade_end_forms, length-fixed_forms, length-volume_forms}
-use Rattle.term_store.specs.declared.side.Side.{Side}
-use Rattle.term_store.specs.declared.side.Side.TheVariants.{Equal, AtLeast}
+use Rattle.term_store.specs.declared.side.Side.TheVariants.{AtLeast}
 use Rattle.form_rows.specs.FormRows.{asked}
-use Rattle.form_rows.proofs.PlaceLemmas.{first_at, behind_at, list_at, flat_at, few_lists, pair_first, pair_second, pair_alike, below_two}
-use Rattle.section_rows.specs.inside.Rights.{right_at}
+use Rattle.form_rows.proofs.PlaceLemmas.{flat_at, pair_first, pair_second, below_two}
 use Rattle.section_rows.proofs.sides.fixed_side.Goals as goal
 
 pub opposite-requires : goal.opposite-requires

@@ -1,21 +1,12 @@
-use Rattle.std.proofs.Common.{◌≡◌, ℕ, zero, suc, ◌+◌, ◌-◌, ◌*◌, ◌^◌, ◌/◌, ◌%◌, ◌<◌, ◌≤◌, List, [], ◌∷◌, ◌++◌, length, arith, ap, sym, ◌∙◌, refl, FitsSigned, rules}
-use Rattle.std.specs.Prelude.{ℤ, pos, neg_ℤ, unsigned_abs}
-use Rattle.std.specs.Int.{w64}
-use Rattle.std.proofs.lemmas.Int.{ints, to_z-of_z}
-use Rattle.algebra.specs.Numbered.{numbered, IsNumber}
-use Rattle.road_types.specs.Forms.{Form, no_form, between_forms}
-use Rattle.road_types.specs.Heights.{segment_length}
-use Rattle.road_types.specs.Lines.{Lines}
-use Rattle.road_types.specs.Road.{section, fixed_point, section_count, segment_count, fixed_count, ground}
+use Rattle.std.proofs.Common.{◌≡◌, ◌-◌, ◌*◌, ◌++◌, length, arith, ap, sym, ◌∙◌}
+use Rattle.algebra.specs.Numbered.{numbered}
+use Rattle.road_types.specs.Forms.{no_form}
+use Rattle.road_types.specs.Road.{segment_count}
 use Rattle.road_types.specs.RoadPrograms.{lines_in}
-use Rattle.road_types.specs.SectionForms.{grade_entries, station_entries, offset_form, offset_forms, next_height_form, next_grade_form, continuity_forms, grade_end_forms, fixed_forms, lines_forms, volume_forms}
-use Rattle.road_types.specs.declared.road.Road.{Road}
-use Rattle.road_types.proofs.FormCounts.{length-offset_forms, length-continuity_forms, length-grade_end_forms, length-fixed_forms, length-volume_forms}
-use Rattle.term_store.specs.declared.side.Side.{Side}
-use Rattle.term_store.specs.declared.side.Side.TheVariants.{Equal, AtLeast}
+use Rattle.road_types.specs.SectionForms.{continuity_forms, grade_end_forms, fixed_forms, volume_forms}
+use Rattle.road_types.proofs.FormCounts.{length-continuity_forms}
 use Rattle.form_rows.specs.FormRows.{asked}
-use Rattle.form_rows.proofs.PlaceLemmas.{first_at, behind_at, list_at, flat_at, few_lists, pair_first, pair_second, pair_alike, below_two}
-use Rattle.section_rows.specs.inside.Rights.{right_at}
+use Rattle.form_rows.proofs.PlaceLemmas.{first_at, behind_at}
 use Rattle.section_rows.proofs.sides.later_side.Goals as goal
 
 pub returns-then-row-count : goal.returns-then-row-count

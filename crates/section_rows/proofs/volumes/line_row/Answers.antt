@@ -1,21 +1,15 @@
-use Rattle.std.proofs.Common.{◌≡◌, ℕ, ◌+◌, ◌-◌, ◌*◌, List, [], ◌∷◌, ◌++◌, length, map, arith, ap, sym, ◌∙◌, refl, FitsSigned, rules}
-use Rattle.std.specs.Prelude.{ℤ, pos, neg_ℤ}
-use Rattle.std.specs.Int.{w64}
+use Rattle.std.proofs.Common.{◌≡◌, ℕ, List, [], ◌∷◌, ◌++◌, ap, ◌∙◌}
+use Rattle.std.specs.Prelude.{ℤ}
 use Rattle.std.proofs.lemmas.Int.{to_z-of_z}
 use Rattle.std.proofs.lemmas.List.{append-nil}
-use Rattle.algebra.specs.Lists.{list_to, flat_to}
-use Rattle.algebra.proofs.Products.{int_neg_neg}
-use Rattle.algebra.proofs.ListsLemmas.{map-flat_to}
+use Rattle.algebra.specs.Lists.{flat_to}
 use Rattle.road_types.specs.Columns.{column_number}
-use Rattle.road_types.specs.Forms.{negated}
-use Rattle.road_types.specs.RoadPrograms.{term_in, terms_of, lines_in}
-use Rattle.road_types.specs.SectionForms.{volume_entries}
+use Rattle.road_types.specs.RoadPrograms.{term_in, terms_of}
 use Rattle.road_types.specs.declared.road.Road.{Road}
 use Rattle.road_types.specs.declared.column.Column.{Column}
 use Rattle.road_types.specs.declared.column.Column.TheVariants.{Offset, Cut, Fill}
 use Rattle.term_store.specs.declared.term.Term.{Term}
-use Rattle.form_rows.specs.FormRows.{Grew, form_terms, forms_terms}
-use Rattle.form_rows.proofs.GrewLemmas.{rising_fits, grew_by, grew_more, grew_count}
+use Rattle.form_rows.proofs.GrewLemmas.{rising_fits}
 use Rattle.form_rows.proofs.RisingLemmas.{volume_row_rises}
 use Rattle.section_rows.proofs.volumes.line_row.Goals as goal
 

@@ -1,0 +1,5 @@
+pub mod NumbersLemmas
+pub mod SlabsLemmas
+pub mod EachLemmas
+pub mod RecordsLemmas
+pub mod TableLemmas
