@@ -1,26 +1,24 @@
 -- The program of a box that fits an accepted road is within all limits of a program in memory.
-use Rattle.std.proofs.Common.{◌≡◌, ℕ, zero, suc, ◌+◌, ◌-◌, ◌*◌, ◌≤◌, ◌<◌, Bool, true, false, List, [], ◌∷◌, ◌++◌, map, length, arith, ap, sym, ◌∙◌, refl, subst, ⊎_elim}
+use Rattle.std.proofs.Common.{ℕ, ◌+◌, ◌-◌, Bool, true, false, List, [], ◌∷◌, arith, sym, ◌∙◌, subst}
 use Rattle.std.specs.Prelude.{ℤ, pos, neg_ℤ, ◌*ℤ◌, ◌≤ℤ◌, ◌<ℤ◌, nat_lt, nat_le, ◌==◌, if◌then◌else◌}
 use Rattle.std.specs.List.{All}
 use Rattle.std.proofs.lemmas.Int.{ints}
-use Rattle.std.proofs.lemmas.Bool.{cases_lt}
 use Rattle.std.proofs.lemmas.List.{length-map}
 use Rattle.std.proofs.lemmas.List.Elements.{All-append, All-map}
-use Rattle.algebra.specs.Lists.{list_to, flat_to}
 use Rattle.algebra.proofs.ListsLemmas.{map-flat_to}
-use Rattle.programs.specs.Programs.{Program, ProgramRow, column_count, row_count}
+use Rattle.programs.specs.Programs.{ProgramRow, column_count}
 use Rattle.programs.specs.Limits.{Rises, IsWithinLimits}
 use Rattle.road_types.specs.Numbered.{numbered, IsNumber}
 use Rattle.road_types.specs.Heights.{segment_at, segment_length, steps_along}
-use Rattle.road_types.specs.Road.{section, fixed_point, block, section_count, segment_count, fixed_count, access}
+use Rattle.road_types.specs.Road.{section, fixed_point, block, section_count, segment_count, access}
 use Rattle.road_types.specs.WellFormed.{IsWellFormed, IsOnKnots}
 use Rattle.road_types.specs.Accepted.{IsAccepted}
 use Rattle.road_types.specs.Columns.{columns_of, bounds_of, unit_cost, opened_bounds}
 use Rattle.road_types.specs.Forms.{Form, negated}
 use Rattle.road_types.specs.Lines.{Lines}
-use Rattle.road_types.specs.SectionForms.{height_entries, grade_entries, station_entries, volume_entries, section_forms}
+use Rattle.road_types.specs.SectionForms.{volume_entries, section_forms}
 use Rattle.road_types.specs.HaulForms.{brought, taken, greatest_haul_out, haul_forms}
-use Rattle.road_types.specs.RoadPrograms.{terms_of, row_of, forms_of, lines_in, road_program}
+use Rattle.road_types.specs.RoadPrograms.{terms_of, row_of, forms_of, lines_in}
 use Rattle.road_types.specs.declared.road.Road.{Road}
 use Rattle.road_types.specs.declared.column.Column.{Column}
 use Rattle.road_types.specs.declared.column.Column.TheVariants.{A, B, C, Offset, Cut, Fill, Right, Left, Access, Opened}

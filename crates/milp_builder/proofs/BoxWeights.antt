@@ -1,26 +1,25 @@
 -- The program of a box that fits its road weighs no more than the road.
-use Rattle.std.proofs.Common.{◌≡◌, ℕ, zero, suc, ◌+◌, ◌-◌, ◌*◌, ◌≤◌, ◌<◌, max, Bool, true, false, cond, Option, Some, None, List, [], ◌∷◌, ◌++◌, map, length, get_or, arith, ap, sym, ◌∙◌, refl, subst, ⊎_elim}
+use Rattle.std.proofs.Common.{◌≡◌, ℕ, zero, suc, ◌+◌, ◌≤◌, ◌<◌, Bool, true, false, cond, Option, Some, None, List, [], ◌∷◌, ◌++◌, map, length, get_or, arith, ap, sym, ◌∙◌, refl, subst}
 use Rattle.std.specs.Prelude.{ℤ, pos, neg_ℤ, unsigned_abs, ◌==◌, nat_lt, nat_le, if◌then◌else◌}
 use Rattle.std.specs.Ordering.{int_eq}
-use Rattle.std.proofs.lemmas.Int.{ints, clamps}
-use Rattle.std.proofs.lemmas.Bool.{cases_lt}
+use Rattle.std.proofs.lemmas.Int.{ints}
 use Rattle.std.proofs.lemmas.Bool.Decides.{nat_tests}
-use Rattle.std.proofs.lemmas.List.{length-map, get_or-map, map-append}
+use Rattle.std.proofs.lemmas.List.{length-map, get_or-map}
 use Rattle.std.proofs.Math.Nat.{mul-le-mul}
-use Rattle.algebra.specs.Lists.{list_to, flat_to}
+use Rattle.algebra.specs.Lists.{flat_to}
 use Rattle.algebra.specs.Totals.{total_to}
 use Rattle.algebra.proofs.TotalsLemmas.{total_to_le}
 use Rattle.term_store.specs.declared.term.Term.{Term}
-use Rattle.programs.specs.Programs.{Program, ProgramRow, column_count, bounds_at, cost_at, entry}
+use Rattle.programs.specs.Programs.{Program, column_count, bounds_at, cost_at, entry}
 use Rattle.programs.specs.Weights.{load_of_terms, load_of_rows, reach, column_weight, load_of_rights, weight}
 use Rattle.road_types.specs.Numbered.{numbered, IsNumber}
-use Rattle.road_types.specs.Road.{section, section_count, segment_count, hop_count, block_count}
+use Rattle.road_types.specs.Road.{section, section_count}
 use Rattle.road_types.specs.WellFormed.{IsWellFormed}
-use Rattle.road_types.specs.Ranges.{height_range, AreHeightRanges, whole_range, whole_opening, whole_ranges, whole_openings}
-use Rattle.road_types.specs.Columns.{columns_of, column_number, bounds_of, unit_cost, opened_bounds}
+use Rattle.road_types.specs.Ranges.{height_range, AreHeightRanges, whole_opening, whole_ranges, whole_openings}
+use Rattle.road_types.specs.Columns.{columns_of, column_number, bounds_of, opened_bounds}
 use Rattle.road_types.specs.Forms.{Form, negated}
-use Rattle.road_types.specs.Lines.{Lines, lines_over, heaviest_lines, deepest}
-use Rattle.road_types.specs.SectionForms.{offset_forms, continuity_forms, grade_end_forms, fixed_forms, volume_entries, above_form, below_form, lines_forms, volume_forms, section_forms}
+use Rattle.road_types.specs.Lines.{Lines, heaviest_lines}
+use Rattle.road_types.specs.SectionForms.{offset_forms, continuity_forms, grade_end_forms, fixed_forms, above_form, below_form, lines_forms, volume_forms, section_forms}
 use Rattle.road_types.specs.HaulForms.{haul_forms}
 use Rattle.road_types.specs.RoadPrograms.{term_in, terms_of, row_of, forms_of, lines_in, program_with, road_program, road_weight}
 use Rattle.road_types.specs.declared.road.Road.{Road}
@@ -30,7 +29,6 @@ use Rattle.volume_lines.proofs.HeavyLines.{IsNoHeavier, lines_no_heavier, breakp
 use Rattle.road_points.proofs.FormsHold.{tables_of}
 use Rattle.road_points.specs.ColumnKinds.{IsKindOf}
 use Rattle.road_points.proofs.RoadKinds.{all_kinds}
-use Rattle.milp_builder.specs.declared.boxes.BoxRange.{BoxRange}
 use Rattle.milp_builder.proofs.RootBox.{root_heights, root_openings}
 
 -- ---- rows

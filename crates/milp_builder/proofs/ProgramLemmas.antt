@@ -1,14 +1,14 @@
 -- The parts of a box's program, by the numbers of its rows.
-use Rattle.std.proofs.Common.{◌≡◌, ℕ, zero, suc, ◌+◌, ◌-◌, ◌≤◌, ◌<◌, List, [], ◌∷◌, ◌++◌, map, length, get_or, arith, ap, sym, ◌∙◌, refl, subst}
+use Rattle.std.proofs.Common.{◌≡◌, ℕ, zero, suc, ◌-◌, ◌≤◌, ◌<◌, List, [], ◌∷◌, ◌++◌, map, length, arith, ap, sym, ◌∙◌, refl, subst}
 use Rattle.std.specs.Prelude.{ℤ}
 use Rattle.std.specs.List.{All}
-use Rattle.std.proofs.lemmas.List.{length-map, length-append, get_or_append_left, get_or-append_right}
+use Rattle.std.proofs.lemmas.List.{length-map, get_or_append_left, get_or-append_right}
 use Rattle.algebra.specs.Lists.{list_to}
 use Rattle.algebra.proofs.ListsLemmas.{map-list_to}
-use Rattle.form_rows.specs.FormRows.{asked, form_terms, forms_terms, Grew}
+use Rattle.form_rows.specs.FormRows.{form_terms, forms_terms, Grew}
 use Rattle.programs.specs.Programs.{Program, rows_of}
 use Rattle.programs.specs.Limits.{IsWithinLimits}
-use Rattle.road_types.specs.Numbered.{numbered, IsNumber}
+use Rattle.road_types.specs.Numbered.{numbered}
 use Rattle.road_types.specs.Forms.{Form, no_form}
 use Rattle.road_types.specs.Lines.{Lines}
 use Rattle.road_types.specs.SectionForms.{section_forms}

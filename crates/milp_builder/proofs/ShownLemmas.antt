@@ -1,8 +1,7 @@
 -- Steps of the search for the plan that a point shows.
-use Rattle.std.proofs.Common.{◌≡◌, ℕ, zero, suc, ◌+◌, ◌-◌, ◌≤◌, ◌<◌, Option, Some, None, List, [], ◌∷◌, ◌++◌, length, get_or, arith, ap, sym, ◌∙◌, refl, subst, ⊎_elim, ◌⊎◌, inl, inr}
+use Rattle.std.proofs.Common.{◌≡◌, ℕ, suc, ◌+◌, ◌-◌, ◌≤◌, ◌<◌, Option, Some, None, List, [], ◌∷◌, ◌++◌, length, get_or, arith, ap, sym, ◌∙◌, refl, subst, ⊎_elim, inl, inr}
 use Rattle.std.specs.Prelude.{ℤ, pos, ◌-ℤ◌, unsigned_abs, ◌^◌, if◌then◌else◌}
 use Rattle.std.specs.Ordering.{int_eq}
-use Rattle.std.proofs.lemmas.Int.{ints}
 use Rattle.std.proofs.lemmas.Bool.{cases_lt}
 use Rattle.algebra.specs.Lists.{list_to}
 use Rattle.algebra.proofs.Magnitudes.{unsigned_abs_sub_le}
@@ -11,9 +10,9 @@ use Rattle.road_types.specs.Road.{section, section_count, segment_count, hop_cou
 use Rattle.road_types.specs.Columns.{columns_of, column_number}
 use Rattle.road_types.specs.declared.road.Road.{Road}
 use Rattle.road_types.specs.declared.column.Column.{Column}
-use Rattle.road_types.specs.declared.column.Column.TheVariants.{Cut, Fill, Right, Left, Access, Opened}
+use Rattle.road_types.specs.declared.column.Column.TheVariants.{Cut, Fill, Right, Left, Access}
 use Rattle.road_types.proofs.ColumnPlaces.{IsColumn-from_number}
-use Rattle.road_points.specs.Shown.{shown_at, shown, IsWholeAt, IsExactAt}
+use Rattle.road_points.specs.Shown.{shown_at, shown, IsExactAt}
 use Rattle.road_points.specs.ShownPlan.{zeros_to, table_to, piece_at, opening_at, plan_at}
 use Rattle.algebra.specs.Scale.{IsScale}
 use Rattle.programs.specs.Points.{IsPoint}
@@ -25,7 +24,7 @@ use Rattle.road_points.proofs.OnlyPlan.{same_parts}
 use Rattle.milp_builder.specs.Boxes.{IsBoxOf}
 use Rattle.milp_builder.specs.BoxPrograms.{box_program}
 use Rattle.milp_builder.specs.FoundPlans.{HasPartRemoval, IsOtherVolume, IsPlanOfPoint, IsFoundPlan}
-use Rattle.milp_builder.specs.inside.SmallPoints.{HasSmallVolumes, IsOpenedWhole, IsShownPlan}
+use Rattle.milp_builder.specs.inside.SmallPoints.{HasSmallVolumes, IsShownPlan}
 use Rattle.milp_builder.specs.declared.boxes.BoxRange.{BoxRange}
 use Rattle.milp_builder.proofs.BoxLaws.{points_are_plans, shown_plan_is}
 

@@ -1,10 +1,9 @@
 -- The amounts and offsets that a point of a box's program shows are small.
-use Rattle.std.proofs.Common.{◌≡◌, ℕ, zero, suc, ◌+◌, ◌*◌, ◌^◌, ◌≤◌, ◌<◌, List, [], ◌∷◌, length, arith, ap, sym, refl, subst, ⊎_elim, ◌⊎◌, inl, inr}
-use Rattle.std.specs.Prelude.{ℤ, pos, neg_ℤ, ◌+ℤ◌, ◌*ℤ◌, ◌≤ℤ◌, unsigned_abs}
+use Rattle.std.proofs.Common.{◌≡◌, ℕ, ◌*◌, ◌^◌, ◌≤◌, List, [], ◌∷◌, length, arith, ⊎_elim}
+use Rattle.std.specs.Prelude.{ℤ, pos, neg_ℤ, ◌≤ℤ◌, unsigned_abs}
 use Rattle.std.proofs.lemmas.Int.{ints}
 use Rattle.algebra.specs.Scale.{IsScale}
 use Rattle.algebra.proofs.Order.{int_mul_le_mul, int_mul_le_right}
-use Rattle.algebra.proofs.Products.{int_neg_mul}
 use Rattle.programs.specs.Points.{IsPoint}
 use Rattle.road_types.specs.Numbered.{IsNumber}
 use Rattle.road_types.specs.Road.{section, section_count}
@@ -13,7 +12,6 @@ use Rattle.road_types.specs.Volumes.{thickness_of}
 use Rattle.road_types.specs.WellFormed.{IsWellFormed, IsSlabTable, IsCap}
 use Rattle.road_types.specs.declared.road.Road.{Road}
 use Rattle.road_types.specs.declared.road.Slab.{Slab}
-use Rattle.road_types.specs.declared.column.Column.{Column}
 use Rattle.road_types.specs.declared.column.Column.TheVariants.{Offset, Cut, Fill}
 use Rattle.plan_rules.specs.Rules.{IsWithin}
 use Rattle.volume_lines.proofs.LinesLaws.{breakpoint_from_bottom, breakpoint_to_top}

@@ -30,6 +30,7 @@ pub fn build(alloc: Global, road: &Road, range: &BoxRange) -> Result<Milp, Alloc
 }
 
 fn build_accepted(alloc: Global, road: &Road, range: &BoxRange) -> Result<Milp, AllocError>
+    requires faultless { road_fault road.now ≡ None }
     requires accepted { IsAccepted road.now }
     requires fits { IsBoxOf road.now range.now }
     ensures { IfOk result (λ milp. milp ≡ box_program road.now range.now) }
@@ -55,6 +56,7 @@ fn ranges_of(alloc: Global, range: &BoxRange) -> Result<Ranges, AllocError>
 
 /// The rows, and how many of them are for heights and volumes.
 fn box_rows(alloc: Global, road: &Road, ranges: &Ranges) -> Result<(Rows<i64>, usize), AllocError>
+    requires faultless { road_fault road.now ≡ None }
     requires accepted { IsAccepted road.now }
     requires ranges { AreHeightRanges road.now ranges.now.heights }
     ensures rows { IfOk result (λ made. made.0.rows ≡ forms_terms road.now (forms_of road.now (lines_in road.now ranges.now.heights))) }
@@ -73,6 +75,7 @@ fn sides_of(
     ranges: &Ranges,
     along: usize,
 ) -> Result<Vec<Side>, AllocError>
+    requires faultless { road_fault road.now ≡ None }
     requires accepted { IsAccepted road.now }
     requires ranges { AreHeightRanges road.now ranges.now.heights }
     requires along { along ≡ section_row_count road.now }
@@ -92,6 +95,7 @@ fn rights_of(
     ranges: &Ranges,
     along: usize,
 ) -> Result<Vec<i64>, AllocError>
+    requires faultless { road_fault road.now ≡ None }
     requires accepted { IsAccepted road.now }
     requires ranges { AreHeightRanges road.now ranges.now.heights }
     requires along { along ≡ section_row_count road.now }
@@ -107,6 +111,7 @@ fn rights_of(
 
 /// What a row asks of the sum of its terms, where so many rows are for heights and volumes.
 fn row_side(road: &Road, ranges: &Ranges, along: usize, row: usize) -> (Side, i64)
+    requires faultless { road_fault road.now ≡ None }
     requires accepted { IsAccepted road.now }
     requires ranges { AreHeightRanges road.now ranges.now.heights }
     requires along { along ≡ section_row_count road.now }

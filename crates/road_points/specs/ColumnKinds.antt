@@ -1,5 +1,5 @@
 -- The kinds of column that a road has, by the numbers in them.
-use Rattle.std.specs.Prelude.{ℕ, ◌≤◌}
+use Rattle.std.specs.Prelude.{◌≤◌}
 use Rattle.road_types.specs.Numbered.{IsNumber}
 use Rattle.road_types.specs.Road.{section_count, segment_count, hop_count, access_count, block_count}
 use Rattle.road_types.specs.declared.road.Road.{Road}

@@ -1,6 +1,6 @@
 -- The lines of a section over any range are no heavier than its heaviest lines: slopes lie between 0 and the widest area, ends
 -- within the deepest slabs, and right sides within twice the product of the two.
-use Rattle.std.proofs.Common.{◌≡◌, ℕ, zero, suc, max, ◌≤◌, List, [], ◌∷◌, ◌++◌, map, Bool, true, false, cond, arith, ap, sym, subst, ◌∙◌, refl, ⊎_elim, ◌⊎◌, inl, inr}
+use Rattle.std.proofs.Common.{◌≡◌, max, ◌≤◌, List, [], ◌∷◌, ◌++◌, map, Bool, true, false, cond, arith, ap, sym, subst, ◌∙◌, ⊎_elim}
 use Rattle.std.specs.Prelude.{ℤ, pos, neg_ℤ, ◌+ℤ◌, ◌-ℤ◌, ◌*ℤ◌, ◌≤ℤ◌, ◌<ℤ◌, int_le, ◌&&◌, fold, unsigned_abs}
 use Rattle.std.specs.Int.{int_min, int_max}
 use Rattle.std.specs.List.{All}
@@ -11,7 +11,7 @@ use Rattle.algebra.proofs.Products.{int_mul_one, int_zero_mul, int_mul_zero, int
 use Rattle.algebra.proofs.Order.{int_lt_or_le}
 use Rattle.road_types.specs.declared.road.Section.{Section}
 use Rattle.road_types.specs.declared.road.Slab.{Slab}
-use Rattle.road_types.specs.Volumes.{volume_to, thickness_of, net_volume}
+use Rattle.road_types.specs.Volumes.{thickness_of, net_volume}
 use Rattle.road_types.specs.Breakpoints.{IsBreakpoint}
 use Rattle.road_types.specs.Ranges.{IsHeightRange}
 use Rattle.road_types.specs.Lines.{areas_between, slopes_between, least_area, greatest_area, volume_at, widest_area, deepest, Lines, lines_over, heaviest_lines}
@@ -190,13 +190,13 @@ module _ (s : Section) (tables : HasSlabTables s) where
       ⊎_elim
       (λ (l : x <ℤ pos 0).
       let rise = net_rises s.cut s.fill x (pos 0) (pos 0) area (pos 1) x (pos 0) (omega (arith, ints)) (thick_table s.cut tables.cut) (thick_table s.fill tables.fill)
-          (any_slopes s.cut (pos 0) (pos 0) (neg_ℤ x) area cut_within) (any_slopes s.fill (pos 0) x (pos 0) area fill_within)
-          (omega (arith, ints, one x)) (omega (arith, ints)) (omega (arith, ints)) (omega (arith, ints, one (thickness_of s.fill), thickness_from_zero s.fill (thick_table s.fill tables.fill))) (omega (arith, ints, one (thickness_of s.cut))) in
+      (any_slopes s.cut (pos 0) (pos 0) (neg_ℤ x) area cut_within) (any_slopes s.fill (pos 0) x (pos 0) area fill_within)
+      (omega (arith, ints, one x)) (omega (arith, ints)) (omega (arith, ints)) (omega (arith, ints, one (thickness_of s.fill), thickness_from_zero s.fill (thick_table s.fill tables.fill))) (omega (arith, ints, one (thickness_of s.cut))) in
       width_below area x (volume_at s x) (net_volume s.cut s.fill (pos 0) (pos 1)) no_volume rise)
       (λ (l : pos 0 ≤ℤ x).
       let rise = net_rises s.cut s.fill (pos 0) x (pos 0) area (pos 1) (pos 0) x (omega (arith, ints)) (thick_table s.cut tables.cut) (thick_table s.fill tables.fill)
-          (any_slopes s.cut (pos 0) (neg_ℤ x) (pos 0) area cut_within) (any_slopes s.fill (pos 0) (pos 0) x area fill_within)
-          (omega (arith, ints)) (omega (arith, ints)) (omega (arith, ints, one x)) (omega (arith, ints, one (thickness_of s.fill))) (omega (arith, ints, one (thickness_of s.cut), thickness_from_zero s.cut (thick_table s.cut tables.cut))) in
+      (any_slopes s.cut (pos 0) (neg_ℤ x) (pos 0) area cut_within) (any_slopes s.fill (pos 0) (pos 0) x area fill_within)
+      (omega (arith, ints)) (omega (arith, ints)) (omega (arith, ints, one x)) (omega (arith, ints, one (thickness_of s.fill))) (omega (arith, ints, one (thickness_of s.cut), thickness_from_zero s.cut (thick_table s.cut tables.cut))) in
       width_above area x (volume_at s x) (net_volume s.cut s.fill (pos 0) (pos 1)) no_volume rise)
       (int_lt_or_le x (pos 0))
 
@@ -232,11 +232,11 @@ module _ (s : Section) (tables : HasSlabTables s) where
         ⊎_elim
         (λ (l : pos 0 <ℤ range.1).
         let o = some_area s.fill (pos 0) range.0 range.1 (widest_area s) (thick_table s.fill tables.fill) fill_within
-            (between_fill s tables range.0 is_range.low) (between_fill s tables range.1 is_range.high) l is_range.ordered (omega (arith, ints, breakpoint_to_top s tables range.1 is_range.high)) in
+        (between_fill s tables range.0 is_range.low) (between_fill s tables range.1 is_range.high) l is_range.ordered (omega (arith, ints, breakpoint_to_top s tables range.1 is_range.high)) in
         subst (λ (xs : List ℤ). least_area xs ≤ℤ widest_area s) (ap (λ xs. cuts ++ xs) (sym o.1.1.0)) (least_member (pos 10000000) o.0 (widest_area s) cuts o.1.0 o.1.1.1))
         (λ (l : range.1 ≤ℤ pos 0).
         let o = some_area s.cut (pos 0) (neg_ℤ range.1) (neg_ℤ range.0) (widest_area s) (thick_table s.cut tables.cut) cut_within
-            (between_cut s tables range.1 is_range.high) (between_cut s tables range.0 is_range.low) (omega (arith, ints, is_range.ordered)) (omega (arith, ints, is_range.ordered)) (omega (arith, ints, breakpoint_from_bottom s tables range.0 is_range.low)) in
+        (between_cut s tables range.1 is_range.high) (between_cut s tables range.0 is_range.low) (omega (arith, ints, is_range.ordered)) (omega (arith, ints, is_range.ordered)) (omega (arith, ints, breakpoint_from_bottom s tables range.0 is_range.low)) in
         subst (λ (xs : List ℤ). least_area xs ≤ℤ widest_area s) (ap (λ xs. xs ++ fills) (sym o.1.1.0)) (least_to (pos 10000000) o.0 (widest_area s) (o.1.0 ++ fills) o.1.1.1))
         (int_lt_or_le (pos 0) range.1)
 

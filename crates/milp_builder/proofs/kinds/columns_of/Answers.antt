@@ -1,4 +1,4 @@
-use Rattle.std.proofs.Common.{[], ap, sym, ◌∙◌, ◌++◌}
+use Rattle.std.proofs.Common.{ap, sym, ◌∙◌, ◌++◌}
 use Rattle.algebra.specs.Lists.{list_to, flat_to}
 use Rattle.road_types.specs.Road.{section_count, segment_count, block_count}
 use Rattle.road_types.specs.Columns.{segment_columns, stage_columns, block_columns}

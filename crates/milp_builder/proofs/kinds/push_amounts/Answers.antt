@@ -1,4 +1,4 @@
-use Rattle.std.proofs.Common.{◌+◌, ◌-◌, ◌++◌, [], ◌∷◌, ap, sym, ◌∙◌, arith}
+use Rattle.std.proofs.Common.{◌++◌, [], ◌∷◌, ap, ◌∙◌}
 use Rattle.milp_builder.specs.inside.Amounts.{column_in}
 use Rattle.milp_builder.proofs.PointLemmas.{list_step}
 use Rattle.milp_builder.proofs.kinds.push_amounts.Goals as goal

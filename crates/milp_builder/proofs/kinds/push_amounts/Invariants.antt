@@ -1,4 +1,4 @@
-use Rattle.std.proofs.Common.{◌≡◌, ◌++◌, ◌+◌, ◌-◌}
+use Rattle.std.proofs.Common.{◌≡◌, ◌++◌}
 use Rattle.algebra.specs.Lists.{list_to}
 use Rattle.milp_builder.specs.inside.Amounts.{column_in}
 use Rattle.milp_builder.proofs.kinds.push_amounts.Given as goal

@@ -1,4 +1,4 @@
-use Rattle.std.proofs.Common.{◌+◌, ◌-◌, ◌++◌, [], ◌∷◌, ap, sym, ◌∙◌, arith}
+use Rattle.std.proofs.Common.{◌+◌, arith}
 use Rattle.road_types.specs.declared.column.Column.TheVariants.{Opened}
 use Rattle.milp_builder.proofs.PointLemmas.{list_step_from_one}
 use Rattle.milp_builder.proofs.kinds.push_block.Goals as goal

@@ -1,4 +1,3 @@
-use Rattle.std.proofs.Common.{◌+◌, ◌-◌, ◌++◌, [], ◌∷◌, ap, sym, ◌∙◌, arith}
 use Rattle.road_types.specs.declared.column.Column.TheVariants.{Offset}
 use Rattle.milp_builder.proofs.PointLemmas.{list_step}
 use Rattle.milp_builder.proofs.kinds.push_offsets.Goals as goal

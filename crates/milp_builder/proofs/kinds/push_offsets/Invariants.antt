@@ -1,4 +1,4 @@
-use Rattle.std.proofs.Common.{◌≡◌, ◌++◌, ◌+◌, ◌-◌}
+use Rattle.std.proofs.Common.{◌≡◌, ◌++◌}
 use Rattle.algebra.specs.Lists.{list_to}
 use Rattle.road_types.specs.declared.column.Column.TheVariants.{Offset}
 use Rattle.milp_builder.proofs.kinds.push_offsets.Given as goal

@@ -1,4 +1,3 @@
-use Rattle.std.proofs.Common.{◌+◌, ◌-◌, ◌++◌, [], ◌∷◌, ap, sym, ◌∙◌, arith}
 use Rattle.road_types.specs.Columns.{stage_columns}
 use Rattle.milp_builder.proofs.PointLemmas.{flat_step}
 use Rattle.milp_builder.proofs.kinds.push_stages.Goals as goal

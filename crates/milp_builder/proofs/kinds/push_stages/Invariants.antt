@@ -1,4 +1,4 @@
-use Rattle.std.proofs.Common.{◌≡◌, ◌++◌, ◌+◌, ◌-◌}
+use Rattle.std.proofs.Common.{◌≡◌, ◌++◌}
 use Rattle.algebra.specs.Lists.{flat_to}
 use Rattle.road_types.specs.Columns.{stage_columns}
 use Rattle.milp_builder.proofs.kinds.push_stages.Given as goal

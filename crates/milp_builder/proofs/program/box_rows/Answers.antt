@@ -1,4 +1,4 @@
-use Rattle.std.proofs.Common.{◌≡◌, List, arith, ap, ◌∙◌}
+use Rattle.std.proofs.Common.{arith, ap, ◌∙◌}
 use Rattle.std.specs.Prelude.{ℤ}
 use Rattle.road_types.specs.SectionForms.{section_forms}
 use Rattle.road_types.specs.RoadPrograms.{lines_in}

@@ -1,4 +1,4 @@
-use Rattle.std.proofs.Common.{◌≡◌, ◌+◌, ◌≤◌, ap, sym, ◌∙◌, arith, ℕ}
+use Rattle.std.proofs.Common.{◌+◌, ap, sym, ◌∙◌, arith, ℕ}
 use Rattle.std.specs.Prelude.{ℤ}
 use Rattle.road_types.specs.declared.column.Column.TheVariants.{Opened}
 use Rattle.road_points.specs.Shown.{shown}

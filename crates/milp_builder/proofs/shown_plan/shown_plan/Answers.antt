@@ -1,10 +1,9 @@
-use Rattle.std.proofs.Common.{◌≡◌, ap, ◌∙◌, ℕ}
+use Rattle.std.proofs.Common.{ap, ◌∙◌}
 use Rattle.std.specs.Prelude.{ℤ}
 use Rattle.std.specs.Int.{w128}
 use Rattle.std.proofs.lemmas.Int.{to_z-of_z}
 use Rattle.road_types.specs.declared.column.Column.{Column}
 use Rattle.road_types.specs.declared.column.Column.TheVariants.{Cut, Fill, Right, Left, Access}
-use Rattle.plan_rules.specs.declared.plan.Plan.{Plan}
 use Rattle.road_points.specs.Shown.{shown}
 use Rattle.road_points.specs.ShownPlan.{table_to}
 use Rattle.milp_builder.proofs.ShownLemmas.{plan_of_parts}
