@@ -1,6 +1,6 @@
 -- The straight lines between which a section's volume lies over a range of offsets: their slopes, and the right sides of the
 -- four rows that say so. A slope is a slab's area in m², offsets are in mm, right sides in litres.
-use Rattle.std.specs.Prelude.{◌&&◌, if◌then◌else◌, List, [], ◌∷◌, ◌++◌, map, ℤ, pos, neg_ℤ, ◌+ℤ◌, ◌-ℤ◌, ◌*ℤ◌, int_le, fold}
+use Rattle.std.specs.Prelude.{ℕ, ◌&&◌, if◌then◌else◌, List, [], ◌∷◌, ◌++◌, map, ℤ, pos, neg_ℤ, ◌+ℤ◌, ◌-ℤ◌, ◌*ℤ◌, int_le, fold}
 use Rattle.std.specs.Int.{int_min, int_max}
 use Rattle.road_types.specs.Volumes.{net_volume, thickness_of}
 use Rattle.road_types.specs.declared.road.Section.{Section}

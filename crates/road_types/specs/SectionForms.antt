@@ -1,6 +1,6 @@
 -- The rows for heights and volumes: what joins each section's offset to its segment, each segment to the next one, and limits
 -- grades, fixed points and volumes. They come in five groups, in this order.
-use Rattle.std.specs.Prelude.{ℕ, ◌+◌, ◌-◌, List, [], ◌∷◌, ◌++◌, ℤ, pos, neg_ℤ, ◌*ℤ◌}
+use Rattle.std.specs.Prelude.{ℕ, ◌+◌, ◌-◌, List, [], ◌∷◌, ◌++◌, ℤ, pos, neg_ℤ, ◌+ℤ◌, ◌-ℤ◌, ◌*ℤ◌}
 use Rattle.algebra.specs.Lists.{list_to, flat_to}
 use Rattle.road_types.specs.Heights.{segment_at, segment_length, steps_along}
 use Rattle.road_types.specs.Road.{section, fixed_point, section_count, segment_count, fixed_count}
