@@ -57,7 +57,7 @@ pub(crate) fn taken_cell<W: Whole, T: Whole>(take: T, pivot_entry: W) -> Option<
 }
 
 /// Puts a term behind the others, where its value isn't 0.
-pub(crate) fn put<T: Whole>(terms: &mut Vec<Term<T>>, column: u32, value: T)
+pub fn put<T: Whole>(terms: &mut Vec<Term<T>>, column: u32, value: T)
     requires { length terms.old.items < vec_capacity terms.old }
     ensures filled { (entries : ℕ → ℤ) (c : ℕ) → IsFilled T.meaning terms.old.items c entries → c ≤ column
         → ((j : ℕ) → c ≤ j → j < column → entries j ≡ pos 0) → entries column ≡ T.meaning value

@@ -9,7 +9,7 @@ mod factoring;
 mod lookup;
 mod summing;
 
-pub use cells::{is_negative, is_zero, widened};
+pub use cells::{is_negative, is_zero, put, widened};
 pub use combining::combine;
 pub use dividing::{common_divisor, write_divided};
 pub use factoring::factors;

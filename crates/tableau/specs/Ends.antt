@@ -10,7 +10,7 @@ use Rattle.tableau.specs.Exchanges.{IsOutside, IsEligible}
 use Rattle.tableau.specs.declared.bound.Bound.{Bound}
 use Rattle.tableau.specs.declared.bound.Bound.TheVariants.{Lower, Upper}
 
--- every basic value is within its bounds
+-- every basic value is within its bounds; asked of tableaux whose basic entries aren't 0
 abbrev pub IsOptimal : Tableau → Type 0
 IsOptimal t = (i : ℕ) (broken : Bound) → IsRow t i → IsOutside t i broken → ⊥
 
@@ -60,7 +60,8 @@ ray t i broken k = turned_row t i broken (t.given.columns + k)
 abbrev pub reduced_cost : Given → ℤ → (ℕ → ℤ) → ℕ → ℤ
 reduced_cost g scale mults j = scale *ℤ g.cost j -ℤ sum_to (λ i. mults i *ℤ g.coefficient i j) g.rows
 
--- the value of a scale and multipliers: no point in the bounds whose rows have these signs costs less over the scale
+-- the value of a scale and multipliers; where the multipliers have right signs, no point in the bounds that meets the rows costs
+-- less, times the scale
 abbrev pub dual_value : Given → ℤ → (ℕ → ℤ) → ℤ
 dual_value g scale mults =
     sum_to (λ i. mults i *ℤ g.low (g.columns + i)) g.rows

@@ -37,7 +37,8 @@ abbrev pub IsRatioAtMost : Tableau → ℕ → ℕ → ℕ → Type 0
 IsRatioAtMost t i j k =
     unsigned_abs (t.entry 0 j) * unsigned_abs (t.entry i k) ≤ unsigned_abs (t.entry 0 k) * unsigned_abs (t.entry i j)
 
--- row i has the least-numbered basic column of all rows outside, and column c is the least-numbered one of its ratio
+-- row i has the least-numbered basic column of all rows outside, and column c is the least-numbered one of the eligible columns
+-- whose ratio is at most its own
 pub record IsFirst (t : Tableau) (i : ℕ) (broken : Bound) (c : ℕ) : Type 0 where
   pub row : (k : ℕ) (other : Bound) → IsRow t k → IsOutside t k other → t.basis i ≤ t.basis k
   pub column : (j : ℕ) → IsEligible t i broken j → IsRatioAtMost t i j c → c ≤ j
@@ -84,7 +85,7 @@ pub record IsStandingResult (t : Tableau) (leaving : ℕ) (broken : Bound) (t' :
   pub breaks_low : t'.entry 0 j ≡ pos 0 → j ≡ leaving → broken ≡ Lower → t'.at_high j ≡ false
   pub breaks_high : t'.entry 0 j ≡ pos 0 → j ≡ leaving → broken ≡ Upper → t'.at_high j ≡ true
 
--- t' is the result of the exchange of row i, which breaks this bound, and column c
+-- t' is the result of the good exchange of row i, which breaks this bound, and column c
 pub record IsResultAt (t : Tableau) (i c : ℕ) (broken : Bound) (t' : Tableau) : Type 0 where
   pub given : t'.given ≡ t.given
   pub rows : (k : ℕ) → k ≤ t.given.rows → IsRowResult t i c k (t'.entry k)
@@ -93,5 +94,6 @@ pub record IsResultAt (t : Tableau) (i c : ℕ) (broken : Bound) (t' : Tableau) 
   pub standing : (j : ℕ) → 1 ≤ j → j ≤ t.given.columns → IsStandingResult t (t.basis i) broken t' j
   pub slacks_low : (j : ℕ) → t.given.columns < j → j ≤ last_column t.given → t'.at_high j ≡ false
 
+-- t' is the result of the exchange, which is good (of one whose row is within its bounds nothing is said)
 abbrev pub IsResult : Tableau → Exchange → Tableau → Type 0
 IsResult t x t' = (broken : Bound) → IsOutside t x.row broken → IsResultAt t x.row x.col broken t'

@@ -4,5 +4,6 @@ pub mod Tableaux
 pub mod Exchanges
 pub mod Trails
 pub mod Ends
+pub mod OwnNumbers
 pub mod Operations
 pub mod Laws

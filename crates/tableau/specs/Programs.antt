@@ -17,7 +17,7 @@ pub record Given : Type 0 where
 abbrev pub last_column : Given → ℕ
 last_column g = g.columns + g.rows
 
--- bounds are in order, each structural column has an upper one, and a slack with an upper bound is fixed
+-- the bounds are those of a program: in order, each structural column with an upper one, and a slack with an upper one fixed
 pub record IsOrdered (g : Given) : Type 0 where
   pub ordered : (j : ℕ) → 1 ≤ j → j ≤ g.columns → g.low j ≤ℤ g.high j
   pub bounded : (j : ℕ) → 1 ≤ j → j ≤ g.columns → g.has_high j ≡ true
