@@ -77,10 +77,10 @@ module _ (road : Road) (well : IsWellFormed road) where
         let station = (fixed_point road p).station in
         let s = steps_along road.knots station in
         height_row_rises road (segment_at road.knots station) (neg_ℤ (pos 1)) (neg_ℤ s) (neg_ℤ (s *ℤ s)) (segment_number station (well.fixed p n).on_knots);
-    above_low = λ i n. volume_rises i (lines i).least;
-    below_high = λ i n. turned_volume_rises i (lines i).greatest;
-    below_low = λ i n. turned_volume_rises i (lines i).least;
-    above_high = λ i n. volume_rises i (lines i).greatest;
+    above_least = λ i n. volume_rises i (lines i).least;
+    below_greatest = λ i n. turned_volume_rises i (lines i).greatest;
+    below_least = λ i n. turned_volume_rises i (lines i).least;
+    above_greatest = λ i n. volume_rises i (lines i).greatest;
   }
     where
       before_last : (g : ℕ) → IsNumber g (segment_count road - 1) → IsNumber g (segment_count road)

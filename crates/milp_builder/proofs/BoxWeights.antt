@@ -125,10 +125,10 @@ module _ (road : Road) where
 
   lines_lighter : (i : ℕ) (l h : Lines) → IsNoHeavier l h → AreLighter road (lines_forms road i l) (lines_forms road i h)
   lines_lighter i l h n = (
-    above_lighter i l.least h.least l.above_low h.above_low n.least n.above_low,
+    above_lighter i l.least h.least l.above_least h.above_least n.least n.above_least,
     (
-      below_lighter i l.greatest h.greatest l.below_high h.below_high n.greatest n.below_high,
-      (below_lighter i l.least h.least l.below_low h.below_low n.least n.below_low, (above_lighter i l.greatest h.greatest l.above_high h.above_high n.greatest n.above_high, tt)),
+      below_lighter i l.greatest h.greatest l.below_greatest h.below_greatest n.greatest n.below_greatest,
+      (below_lighter i l.least h.least l.below_least h.below_least n.least n.below_least, (above_lighter i l.greatest h.greatest l.above_greatest h.above_greatest n.greatest n.above_greatest, tt)),
     ),
   )
 

@@ -87,10 +87,10 @@ pub record SectionFormsAre (road : Road) (lines : ℕ → Lines) (P : Form → T
   pub grade_to : (g : ℕ) → IsNumber g (segment_count road) → P (least_form (negated (grade_entries g (segment_length road.knots g))) (neg_ℤ road.grade.1))
   pub fixed_from : (p : ℕ) → IsNumber p (fixed_count road) → P (least_form (station_entries road (fixed_point road p).station) (fixed_point road p).low)
   pub fixed_to : (p : ℕ) → IsNumber p (fixed_count road) → P (least_form (negated (station_entries road (fixed_point road p).station)) (neg_ℤ (fixed_point road p).high))
-  pub above_low : (i : ℕ) → IsNumber i (section_count road) → P (above_form road i (lines i).least (lines i).above_low)
-  pub below_high : (i : ℕ) → IsNumber i (section_count road) → P (below_form road i (lines i).greatest (lines i).below_high)
-  pub below_low : (i : ℕ) → IsNumber i (section_count road) → P (below_form road i (lines i).least (lines i).below_low)
-  pub above_high : (i : ℕ) → IsNumber i (section_count road) → P (above_form road i (lines i).greatest (lines i).above_high)
+  pub above_least : (i : ℕ) → IsNumber i (section_count road) → P (above_form road i (lines i).least (lines i).above_least)
+  pub below_greatest : (i : ℕ) → IsNumber i (section_count road) → P (below_form road i (lines i).greatest (lines i).below_greatest)
+  pub below_least : (i : ℕ) → IsNumber i (section_count road) → P (below_form road i (lines i).least (lines i).below_least)
+  pub above_greatest : (i : ℕ) → IsNumber i (section_count road) → P (above_form road i (lines i).greatest (lines i).above_greatest)
 
 -- a fact of each form for what is moved
 pub record HaulFormsAre (road : Road) (P : Form → Type 0) : Type 0 where
@@ -125,13 +125,13 @@ module _ (road : Road) (lines : ℕ → Lines) (P : Form → Type 0) where
       (λ p n. all_two P (least_form (station_entries road (fixed_point road p).station) (fixed_point road p).low) (least_form (negated (station_entries road (fixed_point road p).station)) (neg_ℤ (fixed_point road p).high)) (h.fixed_from p n) (h.fixed_to p n)))
       (all_flat_to P (λ i. lines_forms road i (lines i)) (section_count road)
       (λ i n.
-      All-cons P (above_form road i (lines i).least (lines i).above_low)
-      (below_form road i (lines i).greatest (lines i).below_high ∷ below_form road i (lines i).least (lines i).below_low ∷ above_form road i (lines i).greatest (lines i).above_high ∷ [])
-      (h.above_low i n)
-      (All-cons P (below_form road i (lines i).greatest (lines i).below_high)
-      (below_form road i (lines i).least (lines i).below_low ∷ above_form road i (lines i).greatest (lines i).above_high ∷ [])
-      (h.below_high i n)
-      (all_two P (below_form road i (lines i).least (lines i).below_low) (above_form road i (lines i).greatest (lines i).above_high) (h.below_low i n) (h.above_high i n))))))))
+      All-cons P (above_form road i (lines i).least (lines i).above_least)
+      (below_form road i (lines i).greatest (lines i).below_greatest ∷ below_form road i (lines i).least (lines i).below_least ∷ above_form road i (lines i).greatest (lines i).above_greatest ∷ [])
+      (h.above_least i n)
+      (All-cons P (below_form road i (lines i).greatest (lines i).below_greatest)
+      (below_form road i (lines i).least (lines i).below_least ∷ above_form road i (lines i).greatest (lines i).above_greatest ∷ [])
+      (h.below_greatest i n)
+      (all_two P (below_form road i (lines i).least (lines i).below_least) (above_form road i (lines i).greatest (lines i).above_greatest) (h.below_least i n) (h.above_greatest i n))))))))
 
   all_section_forms : All P (section_forms road lines) → SectionFormsAre road lines P
   all_section_forms a =
@@ -155,22 +155,22 @@ module _ (road : Road) (lines : ℕ → Lines) (P : Form → Type 0) where
         grade_to = λ g n. second_of P (least_form (grade_entries g (segment_length road.knots g)) road.grade.0) (least_form (negated (grade_entries g (segment_length road.knots g))) (neg_ℤ road.grade.1)) [] (grade g n);
         fixed_from = λ p n. All-head P (least_form (station_entries road (fixed_point road p).station) (fixed_point road p).low) (least_form (negated (station_entries road (fixed_point road p).station)) (neg_ℤ (fixed_point road p).high) ∷ []) (point p n);
         fixed_to = λ p n. second_of P (least_form (station_entries road (fixed_point road p).station) (fixed_point road p).low) (least_form (negated (station_entries road (fixed_point road p).station)) (neg_ℤ (fixed_point road p).high)) [] (point p n);
-        above_low = λ i n. All-head P (above_form road i (lines i).least (lines i).above_low) (rest1 i) (four i n);
-        below_high = λ i n. second_of P (above_form road i (lines i).least (lines i).above_low) (below_form road i (lines i).greatest (lines i).below_high) (rest2 i) (four i n);
-        below_low = λ i n. second_of P (below_form road i (lines i).greatest (lines i).below_high) (below_form road i (lines i).least (lines i).below_low) (rest3 i) (All-tail P (above_form road i (lines i).least (lines i).above_low) (rest1 i) (four i n));
-        above_high = λ i n.
-            second_of P (below_form road i (lines i).least (lines i).below_low) (above_form road i (lines i).greatest (lines i).above_high) []
-            (All-tail P (below_form road i (lines i).greatest (lines i).below_high) (rest2 i) (All-tail P (above_form road i (lines i).least (lines i).above_low) (rest1 i) (four i n)));
+        above_least = λ i n. All-head P (above_form road i (lines i).least (lines i).above_least) (rest1 i) (four i n);
+        below_greatest = λ i n. second_of P (above_form road i (lines i).least (lines i).above_least) (below_form road i (lines i).greatest (lines i).below_greatest) (rest2 i) (four i n);
+        below_least = λ i n. second_of P (below_form road i (lines i).greatest (lines i).below_greatest) (below_form road i (lines i).least (lines i).below_least) (rest3 i) (All-tail P (above_form road i (lines i).least (lines i).above_least) (rest1 i) (four i n));
+        above_greatest = λ i n.
+            second_of P (below_form road i (lines i).least (lines i).below_least) (above_form road i (lines i).greatest (lines i).above_greatest) []
+            (All-tail P (below_form road i (lines i).greatest (lines i).below_greatest) (rest2 i) (All-tail P (above_form road i (lines i).least (lines i).above_least) (rest1 i) (four i n)));
       }
     where
       rest3 : ℕ → List Form
-      rest3 i = above_form road i (lines i).greatest (lines i).above_high ∷ []
+      rest3 i = above_form road i (lines i).greatest (lines i).above_greatest ∷ []
 
       rest2 : ℕ → List Form
-      rest2 i = below_form road i (lines i).least (lines i).below_low ∷ rest3 i
+      rest2 i = below_form road i (lines i).least (lines i).below_least ∷ rest3 i
 
       rest1 : ℕ → List Form
-      rest1 i = below_form road i (lines i).greatest (lines i).below_high ∷ rest2 i
+      rest1 i = below_form road i (lines i).greatest (lines i).below_greatest ∷ rest2 i
 
   pub haul_forms_all : HaulFormsAre road P → All P (haul_forms road)
   haul_forms_all h =

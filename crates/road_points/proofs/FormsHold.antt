@@ -50,22 +50,22 @@ module _ (road : Road) (well : IsWellFormed road) (plan : Plan) (is_plan : IsPla
     fixed_to = λ p n.
         let point = fixed_point road p in
         omega (arith, ints, form_value-negated f (station_entries road point.station), station_value plan f pieces road point.station, (facts.fixed p n).at_most, int_mul_neg plan.den point.high, int_mul_comm plan.den point.high);
-    above_low = λ i n.
+    above_least = λ i n.
         let k = keeps i n in
         let l = lines_in road heights i in
-        omega (arith, ints, volume_value road plan f amounts i l.least, k.above_low);
-    below_high = λ i n.
+        omega (arith, ints, volume_value road plan f amounts i l.least, k.above_least);
+    below_greatest = λ i n.
         let k = keeps i n in
         let l = lines_in road heights i in
-        omega (arith, ints, form_value-negated f (volume_entries road i l.greatest), volume_value road plan f amounts i l.greatest, k.below_high);
-    below_low = λ i n.
+        omega (arith, ints, form_value-negated f (volume_entries road i l.greatest), volume_value road plan f amounts i l.greatest, k.below_greatest);
+    below_least = λ i n.
         let k = keeps i n in
         let l = lines_in road heights i in
-        omega (arith, ints, form_value-negated f (volume_entries road i l.least), volume_value road plan f amounts i l.least, k.below_low);
-    above_high = λ i n.
+        omega (arith, ints, form_value-negated f (volume_entries road i l.least), volume_value road plan f amounts i l.least, k.below_least);
+    above_greatest = λ i n.
         let k = keeps i n in
         let l = lines_in road heights i in
-        omega (arith, ints, volume_value road plan f amounts i l.greatest, k.above_high);
+        omega (arith, ints, volume_value road plan f amounts i l.greatest, k.above_greatest);
   }
     where
       positive : pos 1 ≤ℤ plan.den

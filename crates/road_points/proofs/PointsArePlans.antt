@@ -116,10 +116,10 @@ module _ (road : Road) (well : IsWellFormed road) (heights : List (ℤ × ℤ)) 
       let l = lines_in road heights i in
       let v = moved_is i in
       record {
-        above_low = omega (arith, ints, v, volume_value road plan f amounts i l.least, along.above_low i n);
-        below_high = omega (arith, ints, v, form_value-negated f (volume_entries road i l.greatest), volume_value road plan f amounts i l.greatest, along.below_high i n);
-        below_low = omega (arith, ints, v, form_value-negated f (volume_entries road i l.least), volume_value road plan f amounts i l.least, along.below_low i n);
-        above_high = omega (arith, ints, v, volume_value road plan f amounts i l.greatest, along.above_high i n);
+        above_least = omega (arith, ints, v, volume_value road plan f amounts i l.least, along.above_least i n);
+        below_greatest = omega (arith, ints, v, form_value-negated f (volume_entries road i l.greatest), volume_value road plan f amounts i l.greatest, along.below_greatest i n);
+        below_least = omega (arith, ints, v, form_value-negated f (volume_entries road i l.least), volume_value road plan f amounts i l.least, along.below_least i n);
+        above_greatest = omega (arith, ints, v, volume_value road plan f amounts i l.greatest, along.above_greatest i n);
       }
 
   -- where no breakpoint lies strictly inside the range, the volume is exact

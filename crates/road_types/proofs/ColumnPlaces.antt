@@ -1,9 +1,9 @@
 -- The two views of a road's columns are one: the arithmetic of `column_number` gives the place in the list of kinds, and no other.
-use Rattle.std.proofs.Common.{◌≡◌, ℕ, zero, suc, ◌+◌, ◌-◌, ◌*◌, ◌<◌, ◌≤◌, Bool, true, false, ◌&&◌, List, [], ◌∷◌, ◌++◌, length, arith, ap, sym, ◌∙◌, refl, subst, ◌⊎◌, inl, inr, ⊎_elim, Option, Some, None}
+use Rattle.std.proofs.Common.{◌≡◌, ℕ, ◌+◌, ◌-◌, ◌*◌, ◌≤◌, Bool, true, false, ◌&&◌, List, [], ◌∷◌, ◌++◌, length, arith, ap, sym, ◌∙◌, refl, subst, ⊎_elim, Option, Some, None}
 use Rattle.std.specs.Prelude.{nat_le, MatchOption, ◌↔◌}
 use Rattle.std.proofs.lemmas.List.{length-append}
 use Rattle.algebra.specs.Lists.{list_to, flat_to, IsEntry}
-use Rattle.algebra.proofs.ListsLemmas.{length-list_to, length-flat_to, entry_left, entry_right, entry_here, entry_behind, entry_at, list_to_entry, flat_to_entry, entry_cases, entry_of_none, entry_of_one, entry_of_list_to, IsEntryOf, entry_of_flat_to}
+use Rattle.algebra.proofs.ListsLemmas.{length-list_to, length-flat_to, entry_left, entry_right, entry_here, entry_behind, entry_at, list_to_entry, flat_to_entry, entry_cases, entry_of_one, entry_of_list_to, entry_of_flat_to}
 use Rattle.road_types.specs.Numbered.{IsNumber}
 use Rattle.road_types.specs.RecordFaults.{is_number}
 use Rattle.road_types.specs.Road.{section_count, segment_count, hop_count, access_count, block_count}

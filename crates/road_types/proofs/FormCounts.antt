@@ -1,11 +1,11 @@
 -- How many forms each group has, and with them how many rows a road has.
-use Rattle.std.proofs.Common.{◌≡◌, ℕ, suc, ◌+◌, ◌-◌, ◌*◌, ◌≤◌, List, [], ◌∷◌, ◌++◌, length, arith, refl}
+use Rattle.std.proofs.Common.{◌≡◌, ℕ, ◌+◌, ◌-◌, ◌*◌, [], ◌∷◌, ◌++◌, length, arith, refl}
 use Rattle.std.proofs.lemmas.List.{length-append}
 use Rattle.algebra.specs.Lists.{list_to, flat_to}
 use Rattle.algebra.proofs.ListsLemmas.{length-list_to, length-flat_to}
 use Rattle.road_types.specs.Heights.{segment_length}
 use Rattle.road_types.specs.Road.{section_count, segment_count, fixed_count, pit_count, block_count, fixed_point}
-use Rattle.road_types.specs.Forms.{Form, between_forms}
+use Rattle.road_types.specs.Forms.{between_forms}
 use Rattle.road_types.specs.Lines.{Lines}
 use Rattle.road_types.specs.SectionForms.{grade_entries, station_entries, offset_form, offset_forms, next_height_form, next_grade_form, continuity_forms, grade_end_forms, fixed_forms, lines_forms, volume_forms, section_forms}
 use Rattle.road_types.specs.HaulForms.{balance_form, balance_forms, pit_form, pit_forms, transit_form, transit_forms, cut_stop_form, fill_stop_form, stop_forms, order_form, order_forms, haul_forms}

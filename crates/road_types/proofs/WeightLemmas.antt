@@ -1,11 +1,9 @@
 -- The weight of a well-formed road is the load of what stands on it: group by group of rows, and by costs.
-use Rattle.std.proofs.Common.{◌≡◌, ℕ, zero, suc, ◌+◌, ◌-◌, ◌*◌, ◌<◌, ◌≤◌, Bool, true, false, ◌&&◌, cond, List, [], ◌∷◌, ◌++◌, length, map, arith, ap, sym, ◌∙◌, refl, subst, ◌⊎◌, inl, inr, ⊎_elim, max}
+use Rattle.std.proofs.Common.{◌≡◌, ℕ, zero, suc, ◌+◌, ◌-◌, ◌*◌, ◌≤◌, Bool, true, false, ◌&&◌, cond, List, [], ◌∷◌, ◌++◌, arith, ap, sym, ◌∙◌, refl, subst, ⊎_elim, max}
 use Rattle.std.specs.Prelude.{ℤ, pos, neg_ℤ, ◌+ℤ◌, ◌*ℤ◌, ◌≤ℤ◌, unsigned_abs, nat_le, ◌==◌}
 use Rattle.std.proofs.lemmas.Int.{ints, unsigned_abs-mul}
 use Rattle.std.proofs.lemmas.List.{length-map}
-use Rattle.std.proofs.lemmas.Bool.{cases_lt}
-use Rattle.std.proofs.lemmas.Bool.Decides.{nat_tests}
-use Rattle.algebra.specs.Lists.{list_to, flat_to, total_of, IsEntry}
+use Rattle.algebra.specs.Lists.{list_to, flat_to, total_of}
 use Rattle.algebra.specs.Totals.{total_to}
 use Rattle.algebra.specs.Numbered.{numbered, IsNumber}
 use Rattle.algebra.proofs.ListsLemmas.{total_of-append, total_of-list_to, total_of-flat_to, total_to_of, numbered-map_entry}
@@ -14,26 +12,26 @@ use Rattle.programs.specs.Programs.{Program}
 use Rattle.programs.specs.Weights.{reach}
 use Rattle.programs.proofs.WeightsLemmas.{costs_weight, weight_by_rows}
 use Rattle.road_types.specs.Columns.{segment_columns, stage_columns, block_columns, columns_of, bounds_of, unit_cost}
-use Rattle.road_types.specs.Forms.{Form, negated, between_forms}
+use Rattle.road_types.specs.Forms.{negated, between_forms}
 use Rattle.road_types.specs.HaulForms.{brought, balance_form, balance_forms, taken, pit_form, pit_forms, greatest_haul_out, transit_form, transit_forms, cut_stop_form, fill_stop_form, stop_forms, order_form, order_forms, haul_forms}
-use Rattle.road_types.specs.Heights.{segment_at, segment_length, steps_along, IsInSegment}
+use Rattle.road_types.specs.Heights.{segment_at, segment_length, steps_along}
 use Rattle.road_types.specs.Lines.{Lines, heaviest_lines, widest_area, deepest}
 use Rattle.road_types.specs.Ranges.{whole_ranges, whole_openings}
-use Rattle.road_types.specs.Road.{section, hop, fixed_point, pit, access, block, no_hop, section_count, segment_count, hop_count, fixed_count, pit_count, access_count, block_count, access_unit_cost, same_kind, serves, ground}
-use Rattle.road_types.specs.RoadPrograms.{row_of, forms_of, program_with, road_weight}
+use Rattle.road_types.specs.Road.{section, hop, fixed_point, pit, access, block, no_hop, section_count, segment_count, hop_count, fixed_count, pit_count, access_count, block_count, access_unit_cost, same_kind}
+use Rattle.road_types.specs.RoadPrograms.{forms_of, program_with, road_weight}
 use Rattle.road_types.specs.SectionForms.{height_entries, grade_entries, station_entries, offset_form, offset_forms, next_height_form, next_grade_form, continuity_forms, grade_end_forms, fixed_forms, volume_entries, lines_forms, volume_forms, section_forms}
 use Rattle.road_types.specs.WellFormed.{IsWellFormed, IsOnKnots}
-use Rattle.road_types.specs.inside.Loads.{height_reach, grade_reach, curve_reach, height_load, grade_load, earth_cap, earth_cost, line_load, section_load, joint_load, segment_load, fixed_load, hop_load, access_load, pit_load, haul_cap, block_load, load_of}
+use Rattle.road_types.specs.inside.Loads.{curve_reach, height_load, grade_load, earth_cap, earth_cost, line_load, section_load, joint_load, segment_load, fixed_load, hop_load, access_load, pit_load, haul_cap, block_load, load_of}
 use Rattle.road_types.specs.declared.road.Road.{Road}
 use Rattle.road_types.specs.declared.road.Section.{Section}
 use Rattle.road_types.specs.declared.road.Hop.{Hop}
 use Rattle.road_types.specs.declared.road.PitKind.{PitKind}
 use Rattle.road_types.specs.declared.road.PitKind.TheVariants.{Borrow, Waste}
 use Rattle.road_types.specs.declared.column.Column.{Column}
-use Rattle.road_types.specs.declared.column.Column.TheVariants.{A, B, C, Offset, Cut, Fill, Right, Left, Access, Opened}
+use Rattle.road_types.specs.declared.column.Column.TheVariants.{A, B, Offset, Cut, Fill, Right, Left, Access, Opened}
 use Rattle.road_types.proofs.Acceptance.{test_of_nat_eq, nat_eq_of_test, test_of_nat_le, number_of_test}
 use Rattle.road_types.proofs.SegmentLemmas.{in_segment}
-use Rattle.road_types.proofs.WeightReaches.{whole_bounds, kind_reach, reach_in, entry_weight, form_weight, rows_weight-forms, reach-A, reach-B, reach-C, reach-Offset, reach-Cut, reach-Fill, reach-Right, reach-Left, reach-Access, reach-Opened, reach-Opened-first, kind_reach-Opened, bool_cases, hop-none}
+use Rattle.road_types.proofs.WeightReaches.{kind_reach, reach_in, entry_weight, form_weight, rows_weight-forms, reach-A, reach-B, reach-C, reach-Offset, reach-Cut, reach-Fill, reach-Right, reach-Left, reach-Access, reach-Opened, reach-Opened-first, kind_reach-Opened, bool_cases, hop-none}
 use Rattle.road_types.specs.RecordFaults.{is_number}
 use Rattle.algebra.proofs.NumberedLemmas.{numbered_past}
 

@@ -1,23 +1,22 @@
 -- How far the columns of each kind reach over all offsets and openings of a road, and with it what a row of a form weighs.
-use Rattle.std.proofs.Common.{◌≡◌, ℕ, zero, suc, ◌+◌, ◌-◌, ◌*◌, ◌<◌, ◌≤◌, Bool, true, false, ◌&&◌, cond, List, [], ◌∷◌, ◌++◌, length, map, arith, ap, sym, ◌∙◌, refl, subst, ◌⊎◌, inl, inr, ⊎_elim, Option, Some, None, max}
-use Rattle.std.specs.Prelude.{ℤ, pos, neg_ℤ, ◌*ℤ◌, ◌≤ℤ◌, unsigned_abs, nat_le, nat_lt}
+use Rattle.std.proofs.Common.{◌≡◌, ℕ, zero, suc, ◌+◌, ◌-◌, ◌*◌, ◌<◌, ◌≤◌, Bool, true, false, ◌&&◌, cond, List, [], ◌∷◌, ◌++◌, length, map, arith, ap, sym, ◌∙◌, refl, ◌⊎◌, inl, inr, ⊎_elim, Option, Some, None}
+use Rattle.std.specs.Prelude.{ℤ, pos, neg_ℤ, ◌≤ℤ◌, unsigned_abs}
 use Rattle.std.specs.Int.{int_max}
 use Rattle.std.specs.Ordering.{int_eq}
 use Rattle.std.proofs.lemmas.Int.{ints, clamps}
 use Rattle.std.proofs.lemmas.Bool.{cases_lt}
 use Rattle.std.proofs.lemmas.Bool.Decides.{Decides-int_eq, nat_tests}
-use Rattle.algebra.specs.Lists.{list_to, flat_to, total_of, IsEntry}
+use Rattle.algebra.specs.Lists.{total_of}
 use Rattle.algebra.specs.Numbered.{numbered, IsNumber}
-use Rattle.algebra.proofs.ListsLemmas.{total_of-append, numbered-map_entry, get_or-map_at}
+use Rattle.algebra.proofs.ListsLemmas.{numbered-map_entry, get_or-map_at}
 use Rattle.algebra.proofs.NumberedLemmas.{numbered_past, numbered-map}
-use Rattle.programs.specs.Programs.{ProgramRow}
 use Rattle.programs.specs.Weights.{reach}
 use Rattle.programs.proofs.WeightsLemmas.{reach_at, terms_weight, rows_weight}
-use Rattle.road_types.specs.Columns.{columns_of, IsColumn, column_number, column_at, stage_column, stages_before, stage_width, bounds_of, opened_bounds}
+use Rattle.road_types.specs.Columns.{columns_of, column_number, column_at, stage_column, stages_before, stage_width, bounds_of, opened_bounds}
 use Rattle.road_types.specs.Forms.{Form}
 use Rattle.road_types.specs.Lines.{deepest}
 use Rattle.road_types.specs.Ranges.{whole_range, whole_ranges, whole_opening, whole_openings}
-use Rattle.road_types.specs.Road.{section, hop, access, block, no_section, no_hop, section_count, segment_count, hop_count, access_count, block_count, ground}
+use Rattle.road_types.specs.Road.{section, hop, access, block, no_section, no_hop, section_count, segment_count, hop_count, access_count, block_count}
 use Rattle.road_types.specs.RoadPrograms.{term_in, terms_of, row_of}
 use Rattle.road_types.specs.RecordFaults.{is_number}
 use Rattle.road_types.specs.Volumes.{thickness_of}
@@ -25,11 +24,10 @@ use Rattle.road_types.specs.WellFormed.{IsSolidSlab, IsSlabTable}
 use Rattle.road_types.specs.inside.Loads.{height_reach, grade_reach, curve_reach}
 use Rattle.road_types.specs.declared.road.Road.{Road}
 use Rattle.road_types.specs.declared.road.Slab.{Slab}
-use Rattle.road_types.specs.declared.road.Section.{Section}
 use Rattle.road_types.specs.declared.column.Column.{Column}
 use Rattle.road_types.specs.declared.column.Column.TheVariants.{A, B, C, Offset, Cut, Fill, Right, Left, Access, Opened}
 use Rattle.term_store.specs.declared.term.Term.{Term}
-use Rattle.road_types.proofs.Acceptance.{both_true, true_both, number_of_test, test_of_number}
+use Rattle.road_types.proofs.Acceptance.{number_of_test, test_of_number}
 use Rattle.road_types.proofs.ColumnPlaces.{IsColumn-from_number, segment_number, stage_number, block_number, offset_number}
 
 -- the reach of a column that is there, and 0 of none

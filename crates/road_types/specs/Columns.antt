@@ -1,6 +1,6 @@
 -- The columns of a road's program: their kinds in the order of their numbers, which begin at 1, the number of a kind, and
 -- the bounds and the cost of each. Amounts are in litres, offsets and heights in mm.
-use Rattle.std.specs.Prelude.{◌≡◌, ℕ, ◌+◌, ◌-◌, ◌*◌, ◌==◌, ◌&&◌, nat_le, nat_lt, Bool, if◌then◌else◌, Option, Some, None, List, [], ◌∷◌, ◌++◌, map, length, ℤ, pos, neg_ℤ}
+use Rattle.std.specs.Prelude.{ℕ, ◌+◌, ◌-◌, ◌*◌, ◌==◌, ◌&&◌, nat_le, nat_lt, Bool, if◌then◌else◌, Option, Some, None, List, [], ◌∷◌, ◌++◌, ℤ, pos, neg_ℤ}
 use Rattle.algebra.specs.Lists.{list_to, flat_to, IsEntry}
 use Rattle.road_types.specs.Numbered.{numbered}
 use Rattle.road_types.specs.Road.{section, hop, access, block, section_count, segment_count, hop_count, access_count, block_count, access_unit_cost}

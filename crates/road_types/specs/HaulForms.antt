@@ -6,7 +6,6 @@ use Rattle.road_types.specs.Road.{section, hop, pit, access, block, section_coun
 use Rattle.road_types.specs.Forms.{Form, equal_form, least_form}
 use Rattle.road_types.specs.declared.road.Road.{Road}
 use Rattle.road_types.specs.declared.road.PitKind.TheVariants.{Borrow, Waste}
-use Rattle.road_types.specs.declared.column.Column.{Column}
 use Rattle.road_types.specs.declared.column.Column.TheVariants.{Cut, Fill, Right, Left, Access, Opened}
 
 -- what access road q brings to section i: 1 of a borrow pit, -1 of a waste pit, and 0 where it stands elsewhere

@@ -1,6 +1,6 @@
 -- The straight lines between which a section's volume lies over a range of offsets: their slopes, and the right sides of the
 -- four rows that say so. A slope is a slab's area in m², offsets are in mm, right sides in litres.
-use Rattle.std.specs.Prelude.{ℕ, ◌&&◌, if◌then◌else◌, List, [], ◌∷◌, ◌++◌, map, ℤ, pos, neg_ℤ, ◌+ℤ◌, ◌-ℤ◌, ◌*ℤ◌, int_le, fold}
+use Rattle.std.specs.Prelude.{◌&&◌, if◌then◌else◌, List, [], ◌∷◌, ◌++◌, map, ℤ, pos, neg_ℤ, ◌+ℤ◌, ◌-ℤ◌, ◌*ℤ◌, int_le, fold}
 use Rattle.std.specs.Int.{int_min, int_max}
 use Rattle.road_types.specs.Volumes.{net_volume, thickness_of}
 use Rattle.road_types.specs.declared.road.Section.{Section}
@@ -31,25 +31,25 @@ abbrev pub volume_at : Section → ℤ → ℤ
 volume_at s offset = net_volume s.cut s.fill offset (pos 1)
 
 -- The volume v at an offset u of the range keeps to four lines. With the least slope l and the greatest slope h:
---   v - l*u >= above_low,  h*u - v >= below_high,  l*u - v >= below_low,  v - h*u >= above_high.
+--   v - l*u >= above_least,  h*u - v >= below_greatest,  l*u - v >= below_least,  v - h*u >= above_greatest.
 -- The first two pass through the range's lower end, the others through its upper end.
 pub record Lines : Type 0 where
   pub least : ℤ
   pub greatest : ℤ
-  pub above_low : ℤ
-  pub below_high : ℤ
-  pub below_low : ℤ
-  pub above_high : ℤ
+  pub above_least : ℤ
+  pub below_greatest : ℤ
+  pub below_least : ℤ
+  pub above_greatest : ℤ
 
 -- the lines with these slopes through two points of the volume, (p, at_p) and (q, at_q)
 abbrev pub lines_through : ℤ → ℤ → ℤ × ℤ → ℤ × ℤ → Lines
 lines_through least greatest low high = record {
   least = least;
   greatest = greatest;
-  above_low = low.1 -ℤ least *ℤ low.0;
-  below_high = greatest *ℤ low.0 -ℤ low.1;
-  below_low = least *ℤ high.0 -ℤ high.1;
-  above_high = high.1 -ℤ greatest *ℤ high.0;
+  above_least = low.1 -ℤ least *ℤ low.0;
+  below_greatest = greatest *ℤ low.0 -ℤ low.1;
+  below_least = least *ℤ high.0 -ℤ high.1;
+  above_greatest = high.1 -ℤ greatest *ℤ high.0;
 }
 
 -- the lines of a section over a range of offsets
@@ -71,4 +71,4 @@ abbrev pub heaviest_lines : Section → Lines
 heaviest_lines s =
     let area = widest_area s in
     let right = pos 2 *ℤ (area *ℤ deepest s) in
-    record { least = area; greatest = area; above_low = right; below_high = right; below_low = right; above_high = right }
+    record { least = area; greatest = area; above_least = right; below_greatest = right; below_least = right; above_greatest = right }

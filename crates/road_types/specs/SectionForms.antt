@@ -1,6 +1,6 @@
 -- The rows for heights and volumes: what joins each section's offset to its segment, each segment to the next one, and limits
 -- grades, fixed points and volumes. They come in five groups, in this order.
-use Rattle.std.specs.Prelude.{ℕ, ◌+◌, ◌-◌, List, [], ◌∷◌, ◌++◌, ℤ, pos, neg_ℤ, ◌+ℤ◌, ◌-ℤ◌, ◌*ℤ◌}
+use Rattle.std.specs.Prelude.{ℕ, ◌+◌, ◌-◌, List, [], ◌∷◌, ◌++◌, ℤ, pos, neg_ℤ, ◌*ℤ◌}
 use Rattle.algebra.specs.Lists.{list_to, flat_to}
 use Rattle.road_types.specs.Heights.{segment_at, segment_length, steps_along}
 use Rattle.road_types.specs.Road.{section, fixed_point, section_count, segment_count, fixed_count}
@@ -66,10 +66,10 @@ below_form road i slope right = least_form (negated (volume_entries road i slope
 -- volume: the four lines of section i
 abbrev pub lines_forms : Road → ℕ → Lines → List Form
 lines_forms road i lines =
-    above_form road i lines.least lines.above_low
-    ∷ below_form road i lines.greatest lines.below_high
-    ∷ below_form road i lines.least lines.below_low
-    ∷ above_form road i lines.greatest lines.above_high
+    above_form road i lines.least lines.above_least
+    ∷ below_form road i lines.greatest lines.below_greatest
+    ∷ below_form road i lines.least lines.below_least
+    ∷ above_form road i lines.greatest lines.above_greatest
     ∷ []
 
 abbrev pub volume_forms : Road → (ℕ → Lines) → List Form

@@ -90,11 +90,11 @@ pub(crate) fn section_slopes(road: &Road, ranges: &Ranges, section: usize) -> Sc
 }
 
 /// The right side of the row of the line of the least slope through the lower end, above which the volume lies.
-fn above_low(road: &Road, ranges: &Ranges, section: usize) -> i64
+fn above_least(road: &Road, ranges: &Ranges, section: usize) -> i64
     requires accepted { IsAccepted road.now }
     requires ranges { AreHeightRanges road.now ranges.now.heights }
     requires section { IsNumber section (section_count road.now) }
-    ensures { result ≡ (lines_in road.now ranges.now.heights section).above_low }
+    ensures { result ≡ (lines_in road.now ranges.now.heights section).above_least }
 {
     let end = lower_end(road, ranges, section);
     let volume = section_volume(road, section, end);
@@ -103,11 +103,11 @@ fn above_low(road: &Road, ranges: &Ranges, section: usize) -> i64
 }
 
 /// The right side of the row of the line of the greatest slope through the lower end, below which the volume lies.
-fn below_high(road: &Road, ranges: &Ranges, section: usize) -> i64
+fn below_greatest(road: &Road, ranges: &Ranges, section: usize) -> i64
     requires accepted { IsAccepted road.now }
     requires ranges { AreHeightRanges road.now ranges.now.heights }
     requires section { IsNumber section (section_count road.now) }
-    ensures { result ≡ (lines_in road.now ranges.now.heights section).below_high }
+    ensures { result ≡ (lines_in road.now ranges.now.heights section).below_greatest }
 {
     let end = lower_end(road, ranges, section);
     let volume = section_volume(road, section, end);
@@ -116,11 +116,11 @@ fn below_high(road: &Road, ranges: &Ranges, section: usize) -> i64
 }
 
 /// The right side of the row of the line of the least slope through the upper end, below which the volume lies.
-fn below_low(road: &Road, ranges: &Ranges, section: usize) -> i64
+fn below_least(road: &Road, ranges: &Ranges, section: usize) -> i64
     requires accepted { IsAccepted road.now }
     requires ranges { AreHeightRanges road.now ranges.now.heights }
     requires section { IsNumber section (section_count road.now) }
-    ensures { result ≡ (lines_in road.now ranges.now.heights section).below_low }
+    ensures { result ≡ (lines_in road.now ranges.now.heights section).below_least }
 {
     let end = upper_end(road, ranges, section);
     let volume = section_volume(road, section, end);
@@ -129,11 +129,11 @@ fn below_low(road: &Road, ranges: &Ranges, section: usize) -> i64
 }
 
 /// The right side of the row of the line of the greatest slope through the upper end, above which the volume lies.
-fn above_high(road: &Road, ranges: &Ranges, section: usize) -> i64
+fn above_greatest(road: &Road, ranges: &Ranges, section: usize) -> i64
     requires accepted { IsAccepted road.now }
     requires ranges { AreHeightRanges road.now ranges.now.heights }
     requires section { IsNumber section (section_count road.now) }
-    ensures { result ≡ (lines_in road.now ranges.now.heights section).above_high }
+    ensures { result ≡ (lines_in road.now ranges.now.heights section).above_greatest }
 {
     let end = upper_end(road, ranges, section);
     let volume = section_volume(road, section, end);
@@ -149,13 +149,13 @@ pub(crate) fn volume_right(road: &Road, ranges: &Ranges, section: usize, place: 
     ensures { result ≡ right_at place (lines_in road.now ranges.now.heights section) }
 {
     if place == 0 {
-        return above_low(road, ranges, section);
+        return above_least(road, ranges, section);
     }
     if place == 1 {
-        return below_high(road, ranges, section);
+        return below_greatest(road, ranges, section);
     }
     if place == 2 {
-        return below_low(road, ranges, section);
+        return below_least(road, ranges, section);
     }
-    above_high(road, ranges, section)
+    above_greatest(road, ranges, section)
 }

@@ -126,10 +126,10 @@ least_member start a most (x ∷ xs) rest h = least_member (int_min start x) a m
 pub record IsNoHeavier (l h : Lines) : Type 0 where
   pub least : unsigned_abs l.least ≤ unsigned_abs h.least
   pub greatest : unsigned_abs l.greatest ≤ unsigned_abs h.greatest
-  pub above_low : unsigned_abs l.above_low ≤ unsigned_abs h.above_low
-  pub below_high : unsigned_abs l.below_high ≤ unsigned_abs h.below_high
-  pub below_low : unsigned_abs l.below_low ≤ unsigned_abs h.below_low
-  pub above_high : unsigned_abs l.above_high ≤ unsigned_abs h.above_high
+  pub above_least : unsigned_abs l.above_least ≤ unsigned_abs h.above_least
+  pub below_greatest : unsigned_abs l.below_greatest ≤ unsigned_abs h.below_greatest
+  pub below_least : unsigned_abs l.below_least ≤ unsigned_abs h.below_least
+  pub above_greatest : unsigned_abs l.above_greatest ≤ unsigned_abs h.above_greatest
 
 slope_width : (x area : ℤ) → pos 0 ≤ℤ x → x ≤ℤ area → unsigned_abs x ≤ unsigned_abs area
 slope_width x area p q = omega (arith, ints)
@@ -254,10 +254,10 @@ module _ (s : Section) (tables : HasSlabTables s) where
         record {
           least = least;
           greatest = greatest;
-          above_low = right_width area (least_area slopes) range.0 (volume_at s range.0) (deepest s) least low at_low;
-          below_high = turned_width area (greatest_area slopes) range.0 (volume_at s range.0) (deepest s) greatest low at_low;
-          below_low = turned_width area (least_area slopes) range.1 (volume_at s range.1) (deepest s) least high at_high;
-          above_high = right_width area (greatest_area slopes) range.1 (volume_at s range.1) (deepest s) greatest high at_high;
+          above_least = right_width area (least_area slopes) range.0 (volume_at s range.0) (deepest s) least low at_low;
+          below_greatest = turned_width area (greatest_area slopes) range.0 (volume_at s range.0) (deepest s) greatest low at_low;
+          below_least = turned_width area (least_area slopes) range.1 (volume_at s range.1) (deepest s) least high at_high;
+          above_greatest = right_width area (greatest_area slopes) range.1 (volume_at s range.1) (deepest s) greatest high at_high;
         }
 
 -- the deepest slabs are the thicker side

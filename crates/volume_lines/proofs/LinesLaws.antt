@@ -52,10 +52,10 @@ area_table slabs h = each_area slabs h.solid
 
 -- the volume v at an offset u over den keeps to four lines
 pub record KeepsLines (lines : Lines) (den u v : ℤ) : Type 0 where
-  pub above_low : (den *ℤ lines.above_low) ≤ℤ (v -ℤ lines.least *ℤ u)
-  pub below_high : (den *ℤ lines.below_high) ≤ℤ (lines.greatest *ℤ u -ℤ v)
-  pub below_low : (den *ℤ lines.below_low) ≤ℤ (lines.least *ℤ u -ℤ v)
-  pub above_high : (den *ℤ lines.above_high) ≤ℤ (v -ℤ lines.greatest *ℤ u)
+  pub above_least : (den *ℤ lines.above_least) ≤ℤ (v -ℤ lines.least *ℤ u)
+  pub below_greatest : (den *ℤ lines.below_greatest) ≤ℤ (lines.greatest *ℤ u -ℤ v)
+  pub below_least : (den *ℤ lines.below_least) ≤ℤ (lines.least *ℤ u -ℤ v)
+  pub above_greatest : (den *ℤ lines.above_greatest) ≤ℤ (v -ℤ lines.greatest *ℤ u)
 
 -- a line with slope r through the point (p, at), at the offset u over den
 line_at : (r p at den : ℤ) → den *ℤ (at -ℤ r *ℤ p) ≡ den *ℤ at -ℤ r *ℤ (p *ℤ den)
@@ -68,16 +68,16 @@ line_turned r p at den = simp mults (omega (arith, ints))
 pub keeps_by_rises : (lo hi p q at_p at_q den u v : ℤ) → IsRise lo hi (u -ℤ p *ℤ den) (v -ℤ den *ℤ at_p) → IsRise lo hi (q *ℤ den -ℤ u) (den *ℤ at_q -ℤ v)
     → KeepsLines (lines_through lo hi (p, at_p) (q, at_q)) den u v
 keeps_by_rises lo hi p q at_p at_q den u v r s = record {
-  above_low = omega (arith, ints, line_at lo p at_p den, int_mul_sub lo u (p *ℤ den), r.at_least);
-  below_high = omega (arith, ints, line_turned hi p at_p den, int_mul_sub hi u (p *ℤ den), r.at_most);
-  below_low = omega (arith, ints, line_turned lo q at_q den, int_mul_sub lo (q *ℤ den) u, s.at_least);
-  above_high = omega (arith, ints, line_at hi q at_q den, int_mul_sub hi (q *ℤ den) u, s.at_most);
+  above_least = omega (arith, ints, line_at lo p at_p den, int_mul_sub lo u (p *ℤ den), r.at_least);
+  below_greatest = omega (arith, ints, line_turned hi p at_p den, int_mul_sub hi u (p *ℤ den), r.at_most);
+  below_least = omega (arith, ints, line_turned lo q at_q den, int_mul_sub lo (q *ℤ den) u, s.at_least);
+  above_greatest = omega (arith, ints, line_at hi q at_q den, int_mul_sub hi (q *ℤ den) u, s.at_most);
 }
 
 -- with one slope the lines leave one volume
 pub one_volume : (r p q at_p at_q den u v w : ℤ) → KeepsLines (lines_through r r (p, at_p) (q, at_q)) den u v → KeepsLines (lines_through r r (p, at_p) (q, at_q)) den u w → v ≡ w
 one_volume r p q at_p at_q den u v w k l =
-    omega (arith, ints, line_at r p at_p den, line_turned r p at_p den, k.above_low, k.below_high, l.above_low, l.below_high)
+    omega (arith, ints, line_at r p at_p den, line_turned r p at_p den, k.above_least, k.below_greatest, l.above_least, l.below_greatest)
 
 -- ---- a section over a range
 

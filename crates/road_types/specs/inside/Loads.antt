@@ -1,11 +1,11 @@
 -- The weight of a road by what stands on it: how much each section, segment, fixed point, hop, access road, pit and block adds
 -- to it. A cap counts as the reach of an amount's column, in each row in which the amount stands.
-use Rattle.std.specs.Prelude.{ℕ, ◌+◌, ◌-◌, ◌*◌, nat_le, if◌then◌else◌, pos, neg_ℤ, unsigned_abs}
+use Rattle.std.specs.Prelude.{ℕ, ◌+◌, ◌-◌, ◌*◌, nat_le, if◌then◌else◌, neg_ℤ, unsigned_abs}
 use Rattle.algebra.specs.Totals.{total_to}
 use Rattle.programs.specs.Weights.{reach}
 use Rattle.road_types.specs.Heights.{steps_along, segment_length}
 use Rattle.road_types.specs.Lines.{widest_area, deepest}
-use Rattle.road_types.specs.Road.{section, hop, fixed_point, pit, access, block, section_count, segment_count, hop_count, fixed_count, pit_count, access_count, block_count, access_unit_cost, ground}
+use Rattle.road_types.specs.Road.{section, hop, fixed_point, pit, access, block, section_count, segment_count, hop_count, fixed_count, pit_count, access_count, block_count, access_unit_cost}
 use Rattle.road_types.specs.declared.road.Road.{Road}
 use Rattle.road_types.specs.declared.road.Section.{Section}
 use Rattle.road_types.specs.declared.road.Hop.{Hop}

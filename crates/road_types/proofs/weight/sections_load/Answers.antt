@@ -1,6 +1,6 @@
 use Rattle.std.proofs.Common.{arith}
 use Rattle.algebra.proofs.TotalsLemmas.{total_to_step}
-use Rattle.road_types.specs.Road.{section, ground}
+use Rattle.road_types.specs.Road.{section}
 use Rattle.road_types.specs.inside.Loads.{section_load}
 use Rattle.road_types.proofs.weight.sections_load.Goals as goal
 

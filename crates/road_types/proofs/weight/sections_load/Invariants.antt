@@ -1,6 +1,6 @@
 use Rattle.std.proofs.Common.{◌≡◌, ◌*◌, ◌^◌, ◌≤◌}
 use Rattle.algebra.specs.Totals.{total_to}
-use Rattle.road_types.specs.Road.{section, ground}
+use Rattle.road_types.specs.Road.{section}
 use Rattle.road_types.specs.inside.Loads.{section_load}
 use Rattle.road_types.proofs.weight.sections_load.Given as goal
 

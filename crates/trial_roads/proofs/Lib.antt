@@ -1,0 +1,4 @@
+mod DrawLemmas
+mod TrialFacts
+mod TrialWeights
+mod AcceptedTrials
