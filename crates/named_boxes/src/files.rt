@@ -6,10 +6,31 @@ use outside::{DiskStore, Store, StoreErr};
 use road_file::{RoadErr, read_road, table_name};
 use road_types::{LONGEST_FILE, Road};
 use std::alloc::{AllocError, Global};
+use trial_roads::{GREATEST_NUMBER, trial_road};
 
-/// The road of a file and of the section table that it names; none where there is no such road or file. `AllocError` where
-/// memory is wanting.
+/// The trial road of a number, by a name such as `trial 3`, or else the road of a file and of the section table that it names;
+/// none where there is no such road or file. `AllocError` where memory is wanting.
 pub fn road_of(rt: &HostRuntime, name: &str) -> Result<Option<Road>, AllocError>
+    ensures { IfOk result (λ found. IfSome found (λ road. road_fault road ≡ None)) }
+{
+    match name.strip_prefix("trial ") {
+        Some(number) => trial(rt.alloc(), number),
+        None => road_of_file(rt, name),
+    }
+}
+
+/// The trial road of the number that a text is, if it is one.
+fn trial(alloc: Global, number: &str) -> Result<Option<Road>, AllocError>
+    ensures { IfOk result (λ found. IfSome found (λ road. road_fault road ≡ None)) }
+{
+    match number.parse::<u64>() {
+        Ok(number) if number <= GREATEST_NUMBER => Ok(Some(trial_road(alloc, number)?)),
+        _ => Ok(None),
+    }
+}
+
+/// The road of a file and of the section table that it names.
+fn road_of_file(rt: &HostRuntime, name: &str) -> Result<Option<Road>, AllocError>
     ensures { IfOk result (λ found. IfSome found (λ road. road_fault road ≡ None)) }
 {
     let alloc = rt.alloc();

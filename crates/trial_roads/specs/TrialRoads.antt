@@ -1,6 +1,6 @@
 -- The trial road of a number. The number is the first state of its draws; the draws of its sections follow each other, five a
 -- section, and the last one places the block.
-use Rattle.std.specs.Prelude.{ℕ, zero, suc, ◌+◌, ◌-◌, ◌/◌, ◌%◌, List, [], ◌∷◌, replicate, pos, neg_ℤ, ◌-ℤ◌}
+use Rattle.std.specs.Prelude.{ℕ, zero, suc, ◌+◌, ◌-◌, ◌/◌, ◌%◌, List, [], ◌∷◌, replicate, ℤ, pos, neg_ℤ, ◌-ℤ◌}
 use Rattle.algebra.specs.Lists.{list_to}
 use Rattle.road_types.specs.declared.road.Road.{Road}
 use Rattle.road_types.specs.declared.road.Section.{Section}
@@ -11,6 +11,10 @@ use Rattle.road_types.specs.declared.road.PitKind.TheVariants.{Borrow, Waste}
 use Rattle.road_types.specs.declared.road.Access.{Access}
 use Rattle.road_types.specs.declared.road.Block.{Block}
 use Rattle.trial_roads.specs.Draws.{state_after, drawn}
+
+-- the height of a section's ground
+abbrev ground : Section → ℤ
+ground s = s.ground
 
 -- a slab of 1.5 m whose area is at least the given one and less than 100 m² above it
 abbrev pub drawn_slab : ℕ → ℕ → Slab

@@ -1,0 +1,15 @@
+pub mod Outcomes
+pub mod Reducing
+pub mod Preparing
+pub mod Swapping
+pub mod Steps
+pub mod Keeping
+pub mod Fills
+pub mod Starting
+pub mod Ratios
+pub mod Breaks
+pub mod Selections
+pub mod Surveying
+pub mod Denominators
+pub mod Bridges
+pub mod Endings

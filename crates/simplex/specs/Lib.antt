@@ -1,0 +1,6 @@
+pub mod Givens
+pub mod States
+pub mod Starts
+pub mod Choices
+pub mod Ends
+pub mod inside

@@ -1,0 +1,9 @@
+pub mod Rows
+pub mod Kept
+pub mod Filled
+pub mod Choices
+pub mod Surveys
+pub mod Slacks
+pub mod Joins
+pub mod OwnOptima
+pub mod Rooms
