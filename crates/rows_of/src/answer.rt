@@ -3,7 +3,7 @@ ghost use Rattle.std.specs.Prelude.{◌≡◌, None};
 ghost use Rattle.road_types.specs.Faults.{road_fault};
 ghost use Rattle.milp_builder.specs.Boxes.{IsBoxOf};
 
-use crate::{multipliers, plans, printing, repeats};
+use crate::{families, multipliers, plans, printing, repeats};
 use milp_builder::BoxRange;
 use named_boxes::{box_of, road_of};
 use road_types::Road;
@@ -41,6 +41,7 @@ fn answer_of(
     match word {
         "rows" => printing::rows_text(alloc, road, range),
         "counts" => printing::counts_text(alloc, road, range),
+        "families" => families::families_text(alloc, road, range),
         "ranges" => printing::ranges_text(alloc, range),
         "point" => plans::point_text(rt, road, range, rest),
         "plan" => plans::plan_text(alloc, road, range, rest),

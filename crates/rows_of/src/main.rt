@@ -3,7 +3,8 @@
 //! road or box. What can be asked:
 //!
 //! - `rows`: the counts of its program and the road's weight, the bounds and the cost of each column, and the rows;
-//! - `counts`: the first line of these; `ranges`: the box's ranges;
+//! - `counts`: the first line of these; `ranges`: the box's ranges; `families`: how many rows are for heights and volumes, and
+//!   how many for hauls;
 //! - `point FILE`: the point of the plan in a file, and what both cost; `plan 1 500 ..`: the plan of a denominator and a point;
 //! - `value 2 450 ..`: the value of a scale and of one multiplier for each row;
 //! - `builds 100`: makes the program 100 times; `values 100`: forms its value with all multipliers 100 times.
@@ -12,6 +13,7 @@
 #![tactic(auto)]
 
 mod answer;
+mod families;
 mod multipliers;
 mod numbers_in;
 mod plans;
