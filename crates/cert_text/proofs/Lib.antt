@@ -12,3 +12,5 @@ pub mod HeadingLaws
 pub mod CertLaws
 pub mod LineCounts
 pub mod MisfitLaws
+pub mod ReadLaws
+mod WriteLemmas

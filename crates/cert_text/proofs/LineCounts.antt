@@ -1,5 +1,5 @@
 -- How many lines are taken.
-use Rattle.std.proofs.Common.{◌≡◌, ℕ, ℤ, zero, suc, ◌+◌, Option, Some, None, Result, Ok, Err, List, [], ◌∷◌, length, refl, sym, ap, subst, arith}
+use Rattle.std.proofs.Common.{◌≡◌, ℕ, ℤ, zero, suc, ◌+◌, Option, Some, None, Ok, List, [], ◌∷◌, length, refl, sym, ap, subst, arith}
 use Rattle.text_parts.specs.Lines.{TextLine, Reading}
 use Rattle.plan_text.specs.inside.LineReading.{◌>>=◌, give, taken, behind}
 use Rattle.plan_text.proofs.SpellsLemmas.{then_ok, ok_parts}

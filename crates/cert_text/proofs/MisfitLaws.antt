@@ -1,5 +1,5 @@
 -- A reader of a certificate stops at the first line that isn't of the form due.
-use Rattle.std.proofs.Common.{◌≡◌, ℕ, ℤ, ◌+◌, zero, suc, Bool, true, false, cond, Option, Some, None, Result, Ok, Err, MatchResult, List, [], ◌∷◌, codes, refl, sym, ◌∙◌}
+use Rattle.std.proofs.Common.{◌≡◌, ℕ, ℤ, ◌+◌, zero, suc, Bool, true, false, cond, Option, Some, None, Result, Ok, Err, MatchResult, List, [], ◌∷◌, codes, refl, ◌∙◌}
 use Rattle.std.proofs.lemmas.Result.{MatchResult-weaker, MatchResult-at_err}
 use Rattle.text_parts.specs.Lines.{TextLine, Reading}
 use Rattle.road_types.specs.RoadPrograms.{row_count}
@@ -8,12 +8,11 @@ use Rattle.plan_text.specs.Misfits.{forms_due, misfit_or, nothing}
 use Rattle.plan_text.specs.inside.LineReading.{Read, then_read, ◌>>=◌, give, taken, behind}
 use Rattle.plan_text.specs.inside.PlanReading.{plan_due, start_of}
 use Rattle.plan_text.proofs.DueLaws.{plan_follows}
-use Rattle.milp_builder.specs.declared.boxes.Split.{Split}
 use Rattle.cert_tree.specs.declared.tree.Why.{Why}
-use Rattle.cert_tree.specs.Trees.{BoxTree, low, dead, fork}
+use Rattle.cert_tree.specs.Trees.{BoxTree, fork}
 use Rattle.cert_text.specs.declared.head.Head.{Head}
 use Rattle.cert_text.specs.declared.head.Head.TheVariants.{Low, Dead, Parted}
-use Rattle.cert_text.specs.NodeText.{Root, low_leaf, dead_leaf, split_at, most_levels}
+use Rattle.cert_text.specs.NodeText.{low_leaf, dead_leaf, most_levels}
 use Rattle.cert_text.specs.CertText.{Certificate}
 use Rattle.cert_text.specs.WordForms.{WordForm, line_value, is_next, head_form, mult_form}
 use Rattle.cert_text.specs.StatedForms.{keyword_form, cost_form, bound_form}

@@ -1,6 +1,7 @@
 pub mod NodeText
 pub mod Steps
 pub mod CertText
+pub mod Certs
 pub mod WordForms
 pub mod Fractions
 pub mod StatedForms

@@ -1,3 +1,4 @@
 pub mod NodeReading
 pub mod StepReading
 pub mod CertReading
+pub mod WholeReading
