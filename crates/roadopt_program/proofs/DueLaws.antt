@@ -1,6 +1,6 @@
 -- Told files leave one due end: its status, its output and its file. And what kind of end is due.
 use Rattle.std.specs.Prelude.{ℕ, ◌<◌, zero, suc, ◌-◌, IsTrue, Option, Some, None, Result, Ok, Err, List, [], ◌∷◌, ℤ}
-use Rattle.std.proofs.Common.{◌≡◌, get_or, arith, sym, refl, ap, subst, ◌∙◌}
+use Rattle.std.proofs.Common.{◌≡◌, get_or, arith, sym, refl, ap, ap₂, subst, ◌∙◌}
 use Rattle.outside.specs.Files.{Files}
 use Rattle.road_types.specs.declared.fault.Fault.{Fault}
 use Rattle.road_types.specs.declared.road.Road.{Road}
@@ -15,15 +15,25 @@ use Rattle.plan_text.specs.Misfits.{refused_line}
 use Rattle.plan_text.proofs.AnswerLaws.{plan_of_text-exact}
 use Rattle.numbers.proofs.FractionsLemmas.{same_value_fraction}
 use Rattle.roadopt_program.specs.declared.forms.Verb.{Verb}
-use Rattle.roadopt_program.specs.declared.forms.Verb.TheVariants.{Judge}
+use Rattle.roadopt_program.specs.declared.forms.Verb.TheVariants.{Judge, Check}
 use Rattle.roadopt_program.specs.declared.status.Status.{Status}
-use Rattle.roadopt_program.specs.declared.status.Status.TheVariants.{Done, PlanBroken, PlanRefused, Missing}
+use Rattle.roadopt_program.specs.declared.status.Status.TheVariants.{Done, PlanBroken, PlanRefused, CertRefused, Missing}
 use Rattle.roadopt_program.specs.Due.{◌>>=◌, keeps_rules, is_table_there, road_due, FollowsRoad, Follows, IsDue, Due}
 use Rattle.roadopt_program.specs.Ends.{End, missing_end}
 use Rattle.roadopt_program.specs.Forms.{Command, command_of}
 use Rattle.roadopt_program.specs.Inputs.{Given, IsGivenIfNamed, table_named, road_limit}
 use Rattle.roadopt_program.specs.Judging.{PrintsFraction, PrintsFirstBroken, PrintsRefusedLine, OfPlan, JudgesText, OfPlanBytes}
-use Rattle.roadopt_program.specs.Printed.{plan_refused_line, broken_line, admissible_line}
+use Rattle.roadopt_program.specs.Printed.{plan_refused_line, broken_line, admissible_line, cert_refused_line, valid_line}
+use Rattle.roadopt_program.specs.CertChecking.{PrintsValid, PrintsRefusal, OfCertBytes}
+use Rattle.road_types.specs.Accepted.{IsAccepted}
+use Rattle.cert_text.specs.inside.CertReading.{cert_of_text}
+use Rattle.cert_checker.specs.Refusals.{refused}
+use Rattle.cert_checker.specs.Validity.{stated_cost}
+use Rattle.cert_checker.specs.declared.refusal.Refusal.{Refusal}
+use Rattle.cert_checker.proofs.OneRefusal.{one_refusal}
+use Rattle.cert_text.specs.CertText.{Certificate, IsCertText}
+use Rattle.cert_text.proofs.CertLaws.{cert_of_text-exact}
+use Rattle.road_types.proofs.AcceptedRoad.{IsAccepted-from_fault}
 use Rattle.roadopt_program.specs.Runs.{HasOneEnd}
 use Rattle.roadopt_program.specs.Statuses.{exit_status}
 use Rattle.roadopt_program.proofs.StatusLemmas.{may_be_due}
@@ -118,6 +128,36 @@ same_of_bytes road bytes PlanRefused _ l k a b = absurd (a.none b.plan b.text)
 same_of_bytes road bytes _ PlanRefused l k a b = absurd (b.none a.plan a.text)
 same_of_bytes road bytes _ _ l k a b = same_of_text road bytes _ _ l k a b
 
+-- ---- the lines of a check are one
+
+same_cert : (road : Road) (acc : IsAccepted road) (bytes : List ℕ) (a b : Certificate) → IsCertText road bytes a → IsCertText road bytes b → a ≡ b
+same_cert road acc bytes a b p q = same_ok (cert_of_text road bytes) a b (cert_of_text-exact road acc.rows bytes a p) (cert_of_text-exact road acc.rows bytes b q)
+
+same_valid_line : (road : Road) (acc : IsAccepted road) (bytes l k : List ℕ) → PrintsValid road bytes l → PrintsValid road bytes k → l ≡ k
+same_valid_line road acc bytes l k a b =
+    let same = same_cert road acc bytes a.answer.cert b.answer.cert a.answer.valid.text b.answer.valid.text in
+    let cost = a.answer.cost_is ∙ ap (λ (c : Certificate). stated_cost c.planned) same ∙ sym b.answer.cost_is in
+    let bound = a.answer.bound_is ∙ ap (λ (c : Certificate). c.bound) same ∙ sym b.answer.bound_is in
+    a.line_is ∙ ap₂ valid_line cost bound ∙ sym b.line_is
+
+line_of : Option Refusal → List ℕ
+line_of None = []
+line_of (Some refusal) = cert_refused_line refusal.rule refusal.line
+
+same_refusal_line : (road : Road) (acc : IsAccepted road) (bytes l k : List ℕ) → PrintsRefusal road bytes l → PrintsRefusal road bytes k → l ≡ k
+unfolding line_of cert_refused_line
+same_refusal_line road acc bytes l k a b =
+    a.line_is ∙ ap line_of (one_refusal road acc bytes (refused a.rule a.number) (refused b.rule b.number) a.first b.first) ∙ sym b.line_is
+
+same_of_cert : (road : Road) (acc : IsAccepted road) (bytes : List ℕ) (s t : Status) (l k : List ℕ) → OfCertBytes road bytes s l → OfCertBytes road bytes t k → (s ≡ t) × (l ≡ k)
+same_of_cert road acc bytes Done Done l k a b = (refl, same_valid_line road acc bytes l k a b)
+same_of_cert road acc bytes CertRefused CertRefused l k a b = (refl, same_refusal_line road acc bytes l k a b)
+same_of_cert road acc bytes Done CertRefused l k a b = absurd (b.none a.answer.cert a.answer.valid)
+same_of_cert road acc bytes CertRefused Done l k a b = absurd (a.none b.answer.cert b.answer.valid)
+same_of_cert road acc bytes Done _ l k a b = absurd b
+same_of_cert road acc bytes CertRefused _ l k a b = absurd b
+same_of_cert road acc bytes _ t l k a b = absurd a
+
 -- ---- the end is one
 
 same_end : (a b : End) → a.status ≡ b.status → a.output ≡ b.output → a.file ≡ b.file → a ≡ b
@@ -135,6 +175,10 @@ same_on_road Judge road None a b p q = p ∙ sym q
 same_on_road Judge road (Some bytes) a b p q =
     let both = same_of_bytes road bytes a.status b.status a.output b.output p.0 q.0 in
     same_end a b both.0 both.1 (p.1 ∙ sym q.1)
+same_on_road Check road None a b p q = p ∙ sym q
+same_on_road Check road (Some bytes) a b p q =
+    let both = same_of_cert road (IsAccepted-from_fault road p.0) bytes a.status b.status a.output b.output p.1.0 q.1.0 in
+    same_end a b both.0 both.1 (p.1.1 ∙ sym q.1.1)
 
 same_after : (verb : Verb) (made : Result Road End) (other : Option (List ℕ)) (a b : End) → Follows verb made other a → Follows verb made other b → a ≡ b
 same_after verb (Err early) other a b p q = p ∙ sym q
@@ -168,10 +212,18 @@ bytes_status road bytes Done l h = refl
 bytes_status road bytes PlanBroken l h = refl
 bytes_status road bytes _ l h = absurd h.judged
 
+cert_status : (road : Road) (bytes : List ℕ) (s : Status) (l : List ℕ) → OfCertBytes road bytes s l → IsTrue (may_be_due s)
+unfolding may_be_due
+cert_status road bytes Done l h = refl
+cert_status road bytes CertRefused l h = refl
+cert_status road bytes _ l h = absurd h
+
 road_status : (verb : Verb) (road : Road) (other : Option (List ℕ)) (end : End) → FollowsRoad verb road other end → IsTrue (may_be_due end.status)
 unfolding may_be_due
 road_status Judge road None end h = ap (λ e. may_be_due e.status) h
 road_status Judge road (Some bytes) end h = bytes_status road bytes end.status end.output h.0
+road_status Check road None end h = ap (λ e. may_be_due e.status) h
+road_status Check road (Some bytes) end h = cert_status road bytes end.status end.output h.1.0
 
 kept_status : (verb : Verb) (made : Result Road Fault) (other : Option (List ℕ)) (end : End) → Follows verb (keeps_rules made) other end → IsTrue (may_be_due end.status)
 unfolding may_be_due
@@ -197,9 +249,16 @@ bytes_missing road bytes Done l h e = omega (arith, ap exit_status e)
 bytes_missing road bytes PlanBroken l h e = omega (arith, ap exit_status e)
 bytes_missing road bytes _ l h e = h.judged
 
+cert_missing : (road : Road) (bytes : List ℕ) (s : Status) (l : List ℕ) → OfCertBytes road bytes s l → s ≡ Missing → ⊥
+cert_missing road bytes Done l h e = omega (arith, ap exit_status e)
+cert_missing road bytes CertRefused l h e = omega (arith, ap exit_status e)
+cert_missing road bytes _ l h e = h
+
 road_missing : (verb : Verb) (road : Road) (other : Option (List ℕ)) (end : End) → FollowsRoad verb road other end → end.status ≡ Missing → end ≡ missing_end
 road_missing Judge road None end h e = h
 road_missing Judge road (Some bytes) end h e = absurd (bytes_missing road bytes end.status end.output h.0 e)
+road_missing Check road None end h e = h
+road_missing Check road (Some bytes) end h e = absurd (cert_missing road bytes end.status end.output h.1.0 e)
 
 kept_missing : (verb : Verb) (made : Result Road Fault) (other : Option (List ℕ)) (end : End) → Follows verb (keeps_rules made) other end → end.status ≡ Missing → end ≡ missing_end
 kept_missing verb (Err fault) other end h e = absurd (omega (arith, ap (λ x. exit_status x.status) h, ap exit_status e))

@@ -1,5 +1,5 @@
 -- The bytes of the files that a run reads.
---     road_limit      how many bytes of a road or a plan are read at the most
+--     road_limit, cert_limit      how many bytes of a road or a plan, or of a certificate, are read at the most
 --     IsGiven told name most given      what a read of the named file gives: its bytes up to the limit, or none where there is no such file
 --     table_named road      the name of the section table in what the road's file gives
 --     Given, AreGiven told command given      the same for all the files of a command
@@ -10,17 +10,23 @@ use Rattle.outside.specs.Files.{Files}
 use Rattle.road_types.specs.Limits.{longest_file}
 use Rattle.road_types.specs.declared.fault.Fault.{Fault}
 use Rattle.road_file.specs.RoadOf.{table_name_of}
+use Rattle.cert_checker.specs.Validity.{longest_text}
 use Rattle.roadopt_program.specs.declared.forms.Verb.{Verb}
-use Rattle.roadopt_program.specs.declared.forms.Verb.TheVariants.{Judge}
+use Rattle.roadopt_program.specs.declared.forms.Verb.TheVariants.{Judge, Check}
 use Rattle.roadopt_program.specs.Forms.{Command}
 
 -- one more byte than a road file may have
 unfoldable pub road_limit : ℕ
 road_limit = longest_file + 1
 
+-- one more byte than a certificate's text may have
+unfoldable pub cert_limit : ℕ
+cert_limit = longest_text + 1
+
 -- how many bytes of a command's further file are read at the most
 abbrev pub other_limit : Verb → ℕ
 other_limit Judge = road_limit
+other_limit Check = cert_limit
 
 -- where files are told: the first `most` bytes of the named one, or none where there is no such file
 abbrev pub IsGiven : Option Files → List ℕ → ℕ → Option (List ℕ) → Type 0

@@ -4,6 +4,7 @@ pub mod Statuses
 pub mod Ends
 pub mod Inputs
 pub mod Judging
+pub mod CertChecking
 pub mod Due
 pub mod Runs
 pub mod inside

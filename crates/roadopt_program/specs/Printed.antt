@@ -1,13 +1,16 @@
 -- The lines that the program prints, each with its last byte 10.
 --     fault_name, rule_name      the names of faults and rules
---     usage_line, road_refused_line, plan_refused_line, broken_line, admissible_line      the lines
-use Rattle.std.specs.Prelude.{ℕ, List, ◌++◌, codes}
+--     cert_rule_name      the names of the rules of certificates
+--     usage_line, road_refused_line, plan_refused_line, broken_line, admissible_line, cert_refused_line, valid_line      the lines
+use Rattle.std.specs.Prelude.{ℕ, List, ◌++◌, codes, Option, Some, None}
 use Rattle.std.specs.Fmt.{decimal}
 use Rattle.road_types.specs.declared.fault.Fault.{Fault}
 use Rattle.road_types.specs.declared.fault.Fault.TheVariants.{F1, F2, F3, F4, F5, F6, F7, F8, F9, F10, F11, F12, F13, F14, F15, F16, F17, F18}
 use Rattle.plan_rules.specs.declared.verdict.Rule.{Rule}
 use Rattle.plan_rules.specs.declared.verdict.Rule.TheVariants.{P1, P2, P3, P4, P5, P6, P7, P8, P9}
 use Rattle.numbers.specs.Fractions.{Fraction, fraction_text}
+use Rattle.cert_checker.specs.declared.refusal.CertRule.{CertRule}
+use Rattle.cert_checker.specs.declared.refusal.CertRule.TheVariants.{C1, C2, C3, C4, C5, C6, C7, C8, C9}
 
 -- the name of a fault
 abbrev pub fault_name : Fault → List ℕ
@@ -61,3 +64,29 @@ broken_line rule stage place =
 -- `admissible n/d`
 unfoldable pub admissible_line : Fraction → List ℕ
 admissible_line cost = codes "admissible " ++ (fraction_text cost ++ codes "\n")
+
+-- the name of a rule of certificates
+abbrev pub cert_rule_name : CertRule → List ℕ
+cert_rule_name C1 = codes "C1"
+cert_rule_name C2 = codes "C2"
+cert_rule_name C3 = codes "C3"
+cert_rule_name C4 = codes "C4"
+cert_rule_name C5 = codes "C5"
+cert_rule_name C6 = codes "C6"
+cert_rule_name C7 = codes "C7"
+cert_rule_name C8 = codes "C8"
+cert_rule_name C9 = codes "C9"
+
+-- `certificate refused: Ck line n`
+unfoldable pub cert_refused_line : CertRule → ℕ → List ℕ
+cert_refused_line rule n = codes "certificate refused: " ++ (cert_rule_name rule ++ (codes " line " ++ (decimal n ++ codes "\n")))
+
+-- a cost, or `none`
+unfoldable pub cost_text : Option Fraction → List ℕ
+cost_text None = codes "none"
+cost_text (Some cost) = fraction_text cost
+
+-- `valid no plan` where no bound stands, else `valid cost n/d bound n/d`, with `none` where no plan stands
+unfoldable pub valid_line : Option Fraction → Option Fraction → List ℕ
+valid_line cost None = codes "valid no plan\n"
+valid_line cost (Some bound) = codes "valid cost " ++ (cost_text cost ++ (codes " bound " ++ (fraction_text bound ++ codes "\n")))

@@ -4,6 +4,7 @@ ghost use Rattle.outside.specs.Faults.{HasRisen};
 ghost use Rattle.road_types.specs.Faults.{road_fault};
 ghost use Rattle.roadopt_program.specs.inside.Outcomes.{IsMade, IsMadeOnRoad, end_of};
 
+use crate::cert_checking::check_bytes;
 use crate::ending::{Ending, missing};
 use crate::forms::{Command, Verb};
 use crate::inputs::{Lost, read_file};
@@ -32,6 +33,7 @@ fn end_on_road<S: Store>(
     };
     match command.verb {
         Verb::Judge => Ok(judge_bytes(alloc, road, bytes.as_slice())?),
+        Verb::Check => Ok(check_bytes(alloc, road, bytes.as_slice())?),
     }
 }
 

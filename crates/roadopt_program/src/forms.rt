@@ -8,6 +8,7 @@ ghost use Rattle.roadopt_program.specs.Forms.{is_empty, verb_of, over_files, com
 #[derive(Clone, Copy)]
 pub(crate) enum Verb {
     Judge,
+    Check,
 }
 
 /// What is to be done, the name of the road's file, and that of the further one.
@@ -29,6 +30,8 @@ fn verb_of(word: &str) -> Option<Verb>
 {
     if word == "judge" {
         Some(Verb::Judge)
+    } else if word == "check" {
+        Some(Verb::Check)
     } else {
         None
     }
@@ -47,7 +50,7 @@ fn over_files<'a>(verb: Option<Verb>, road: &'a str, other: &'a str) -> Option<C
     }
 }
 
-/// The command, where the words are `judge ROAD PLAN`.
+/// The command, where the words are `judge ROAD PLAN` or `check ROAD CERT`.
 pub(crate) fn command_of(words: &[String]) -> Option<Command<'_>>
     ensures { option_map (λ c. record { verb = c.verb; road = c.road.now; other = c.other.now }) result
         ≡ command_of (map string_bytes words.now) }

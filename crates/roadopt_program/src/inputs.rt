@@ -2,10 +2,11 @@
 ghost use Rattle.std.specs.Prelude.{◌≡◌, ◌+◌, ◌^◌, ◌≤◌, IfOk, IsErrOf, None};
 ghost use Rattle.std.specs.Option.{option_map};
 ghost use Rattle.outside.specs.Faults.{HasRisen};
-ghost use Rattle.roadopt_program.specs.Inputs.{road_limit, other_limit, IsGiven};
+ghost use Rattle.roadopt_program.specs.Inputs.{road_limit, cert_limit, other_limit, IsGiven};
 ghost use Rattle.roadopt_program.specs.declared.inputs.Lost.TheVariants.{NoMemory};
 
 use crate::forms::Verb;
+use cert_checker::LONGEST_TEXT;
 use outside::{Store, StoreErr};
 use road_types::LONGEST_FILE;
 use std::alloc::{AllocError, Global};
@@ -36,6 +37,15 @@ pub(crate) fn road_limit() -> usize
     LONGEST_FILE + 1
 }
 
+/// How many bytes of a certificate's file are read at the most.
+#[tactic(auto, unfolding(crate::specs::Inputs::cert_limit, cert_checker::specs::Validity::longest_text))]
+pub(crate) fn cert_limit() -> usize
+    ensures value { result ≡ cert_limit }
+    ensures within { result ≤ 2 ^ 26 + 1 }
+{
+    LONGEST_TEXT + 1
+}
+
 impl Verb {
     /// How many bytes of the command's further file are read at the most.
     pub(crate) fn other_limit(self) -> usize
@@ -44,6 +54,7 @@ impl Verb {
     {
         match self {
             Verb::Judge => road_limit(),
+            Verb::Check => cert_limit(),
         }
     }
 }

@@ -2,6 +2,7 @@
 //! The definitions stand in specs/: Forms (words), Due (what is due, in the order of the call), Runs (what stands behind each end).
 #![tactic(auto)]
 
+mod cert_checking;
 mod commands;
 mod ending;
 mod forms;

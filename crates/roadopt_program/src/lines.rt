@@ -1,9 +1,11 @@
 // The lines that are printed.
-ghost use Rattle.std.specs.Prelude.{◌≡◌, ◌≢◌, ◌<◌, ◌^◌, pos, unsigned_abs, IfOk};
+ghost use Rattle.std.specs.Prelude.{◌≡◌, ◌≢◌, ◌<◌, ◌^◌, ◌++◌, codes, pos, unsigned_abs, IfOk};
+ghost use Rattle.numbers.specs.Fractions.{fraction_text};
 ghost use Rattle.std.specs.String.{string_bytes};
 ghost use Rattle.roadopt_program.specs.Judging.{PrintsFraction};
-ghost use Rattle.roadopt_program.specs.Printed.{fault_name, rule_name, road_refused_line, plan_refused_line, broken_line, admissible_line};
+ghost use Rattle.roadopt_program.specs.Printed.{fault_name, rule_name, road_refused_line, plan_refused_line, broken_line, admissible_line, cert_rule_name, cert_refused_line, cost_text, valid_line};
 
+use cert_checker::CertRule;
 use numbers::Frac;
 use plan_rules::Rule;
 use road_types::Fault;
@@ -102,4 +104,71 @@ pub(crate) fn cost_line(alloc: Global, cost: i128, den: i128) -> Result<String, 
         unreachable!()
     };
     admissible_line(alloc, &cost)
+}
+
+fn cert_rule_name(rule: CertRule) -> &'static str
+    ensures { result.now ≡ cert_rule_name rule }
+{
+    match rule {
+        CertRule::C1 => "C1",
+        CertRule::C2 => "C2",
+        CertRule::C3 => "C3",
+        CertRule::C4 => "C4",
+        CertRule::C5 => "C5",
+        CertRule::C6 => "C6",
+        CertRule::C7 => "C7",
+        CertRule::C8 => "C8",
+        CertRule::C9 => "C9",
+    }
+}
+
+/// The line for bytes that are no valid certificate of the road: the first broken rule, with its line.
+#[tactic(auto, unfolding(crate::specs::Printed::cert_refused_line))]
+pub(crate) fn cert_refused_line(
+    alloc: Global,
+    rule: CertRule,
+    line: usize,
+) -> Result<String, AllocError>
+    ensures { IfOk result (λ text. string_bytes text ≡ cert_refused_line rule line) }
+{
+    let name = cert_rule_name(rule);
+    format!(in alloc; "certificate refused: {name} line {line}\n")
+}
+
+/// The text of a cost, or `none`.
+#[tactic(auto, unfolding(crate::specs::Printed::cost_text))]
+fn cost_text(alloc: Global, cost: &Option<Frac>) -> Result<String, AllocError>
+    ensures { IfOk result (λ text. string_bytes text ≡ cost_text cost.now) }
+{
+    match cost {
+        Some(cost) => cost.text(alloc),
+        None => format!(in alloc; "none"),
+    }
+}
+
+/// The line for a valid certificate with a bound.
+fn bounded_line(alloc: Global, cost: &Option<Frac>, bound: &Frac) -> Result<String, AllocError>
+    ensures { IfOk result (λ line. string_bytes line
+        ≡ codes "valid cost " ++ (cost_text cost.now ++ (codes " bound " ++ (fraction_text bound.now ++ codes "\n")))) }
+{
+    let cost = cost_text(alloc, cost)?;
+    let cost = cost.as_str();
+    let bound = bound.text(alloc)?;
+    let bound = bound.as_str();
+    format!(in alloc; "valid cost {cost} bound {bound}\n")
+}
+
+/// The line for a valid certificate.
+#[tactic(auto, unfolding(crate::specs::Printed::valid_line))]
+pub(crate) fn valid_line(
+    alloc: Global,
+    cost: &Option<Frac>,
+    bound: &Option<Frac>,
+) -> Result<String, AllocError>
+    ensures { IfOk result (λ line. string_bytes line ≡ valid_line cost.now bound.now) }
+{
+    match bound {
+        Some(bound) => bounded_line(alloc, cost, bound),
+        None => format!(in alloc; "valid no plan\n"),
+    }
 }

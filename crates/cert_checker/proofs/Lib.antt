@@ -1,0 +1,6 @@
+pub mod ForestLaws
+pub mod WalkLaws
+pub mod ValidLaws
+pub mod FindLaws
+pub mod CheckLaws
+pub mod OneRefusal

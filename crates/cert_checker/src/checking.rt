@@ -1,0 +1,255 @@
+// The check of a certificate.
+ghost use Rattle.std.specs.Prelude.{◌≡◌, ◌≤◌, ◌^◌, IsTrue, ◌↔◌, None, Some, IfOk, unsigned_abs, length};
+ghost use Rattle.algebra.specs.Scale.{IsScale};
+ghost use Rattle.numbers.specs.Fractions.{HasValue, IsReduced};
+ghost use Rattle.road_types.specs.Faults.{road_fault};
+ghost use Rattle.plan_text.specs.PlanText.{HasText};
+ghost use Rattle.cert_text.specs.CertText.{IsStated, IsPricedOrNone};
+ghost use Rattle.cert_checker.specs.Validity.{longest_text, IsProved, stated_cost};
+ghost use Rattle.cert_checker.specs.Refusals.{first_of, IsPlanRefusal, last_refusal, Answers, RefusesRightly, HasOneRefusal};
+ghost use Rattle.cert_checker.specs.inside.Findings.{FindsOrLine, AreFound, EndsText, IsFirstOfFindings, AnswersBy};
+
+use crate::refusal::{CertRule, CheckErr, Checked, Refusal};
+use crate::walk::{Walked, walk_tree};
+use algebra::same;
+use cert_text::{Heading, PricedPlan, read_end, read_heading};
+use numbers::Frac;
+use plan_rules::{Verdict, judge};
+use plan_text::TextErr;
+use road_types::Road;
+use std::alloc::Global;
+use text_parts::Lines;
+
+/// The greatest length of a certificate's text, in bytes.
+pub const LONGEST_TEXT: usize = 67_108_864;
+
+/// What one pass over the bytes finds.
+#[derive(Drop)]
+pub(crate) struct Findings {
+    pub(crate) heading: Heading,
+    pub(crate) bound_line: usize,
+    pub(crate) walked: Walked,
+}
+
+/// The fractions are the same.
+fn same_fraction(a: &Frac, b: &Frac) -> bool
+    ensures same { IsTrue result ↔ (a.now ≡ b.now) }
+    ensures reduced { IsReduced a.now }
+{
+    if same(a.den(), b.den()) {
+        same(a.num(), b.num())
+    } else {
+        false
+    }
+}
+
+/// Whether the stated fraction is the cost over its denominator.
+fn is_value(stated: &Frac, cost: i128, den: i128) -> bool
+    requires cost { unsigned_abs cost ≤ 2 ^ 118 }
+    requires den { IsScale den }
+    ensures { IsTrue result ↔ HasValue stated.now cost den }
+{
+    match Frac::new(cost, den) {
+        Some(value) => same_fraction(stated, &value),
+        None => false,
+    }
+}
+
+/// A plan that isn't admissible, or whose stated cost, on this line, isn't its own.
+fn priced_refusal(road: &Road, priced: &PricedPlan, line: usize) -> Option<Refusal>
+    requires accepted { road_fault road.now ≡ None }
+    requires plan { HasText road.now priced.now.plan }
+    requires cost { IsStated priced.now.cost }
+    ensures { IsPlanRefusal road.now line (Some priced.now) result }
+{
+    match judge(road, &priced.plan) {
+        Verdict::Admissible { cost } => {
+            if is_value(&priced.cost, cost, priced.plan.den) {
+                None
+            } else {
+                Some(Refusal {
+                    rule: CertRule::C4,
+                    line,
+                })
+            }
+        }
+        Verdict::Broken { .. } => Some(Refusal {
+            rule: CertRule::C3,
+            line: 2,
+        }),
+    }
+}
+
+fn plan_refusal(road: &Road, planned: &Option<PricedPlan>, line: usize) -> Option<Refusal>
+    requires accepted { road_fault road.now ≡ None }
+    requires planned { IsPricedOrNone road.now planned.now }
+    ensures { IsPlanRefusal road.now line planned.now result }
+{
+    match planned {
+        Some(priced) => priced_refusal(road, priced, line),
+        None => None,
+    }
+}
+
+/// A bound on this line without a low leaf, or none where there is one.
+fn last_refusal(bound: &Option<Frac>, has_low: bool, line: usize) -> Option<Refusal>
+    ensures { result ≡ last_refusal bound.now has_low line }
+{
+    if bound.is_some() == has_low {
+        None
+    } else {
+        Some(Refusal {
+            rule: CertRule::C9,
+            line,
+        })
+    }
+}
+
+/// The first of two refusals.
+fn first_of(first: Option<Refusal>, second: Option<Refusal>) -> Option<Refusal>
+    ensures { result ≡ first_of first second }
+{
+    match first {
+        Some(refusal) => Some(refusal),
+        None => second,
+    }
+}
+
+/// Takes the end of the text: no line is left.
+fn read_nothing(lines: &mut Lines) -> Result<(), TextErr>
+    ensures { EndsText lines.old result }
+{
+    if lines.next().is_some() {
+        return Err(TextErr::Bad {
+            line: lines.number(),
+        });
+    }
+    Ok(())
+}
+
+/// Reads a certificate to its end and tells what is first refused in its tree.
+fn find(alloc: Global, road: &Road, bytes: &[u8]) -> Result<Findings, TextErr>
+    requires { road_fault road.now ≡ None }
+    ensures { FindsOrLine road.now bytes.now result }
+{
+    let mut lines = Lines::over(bytes);
+    let heading = match read_heading(alloc, road, bytes, &mut lines) {
+        Ok(heading) => heading,
+        Err(error) => return Err(error),
+    };
+    let bound_line = lines.number();
+    let walked = match walk_tree(alloc, road, &heading.bound, &mut lines) {
+        Ok(walked) => walked,
+        Err(error) => return Err(error),
+    };
+    match read_end(&mut lines) {
+        Ok(()) => {}
+        Err(error) => return Err(error),
+    }
+    match read_nothing(&mut lines) {
+        Ok(()) => Ok(Findings {
+            heading,
+            bound_line,
+            walked,
+        }),
+        Err(error) => Err(error),
+    }
+}
+
+/// The first refusal of what was found.
+fn first_refusal(road: &Road, findings: &Findings) -> Option<Refusal>
+    requires accepted { road_fault road.now ≡ None }
+    requires planned { IsPricedOrNone road.now findings.now.heading.planned }
+    ensures { IsFirstOfFindings road.now findings.now result }
+{
+    let planned = plan_refusal(
+        road,
+        &findings.heading.planned,
+        findings.bound_line.saturating_sub(1),
+    );
+    let last = last_refusal(
+        &findings.heading.bound,
+        findings.walked.has_low,
+        findings.bound_line,
+    );
+    first_of(planned, first_of(findings.walked.found, last))
+}
+
+/// The stated cost.
+fn stated_cost(planned: &Option<PricedPlan>) -> Option<Frac>
+    ensures { result ≡ stated_cost planned.now }
+{
+    match planned {
+        Some(priced) => Some(priced.cost),
+        None => None,
+    }
+}
+
+/// The answer where this is first refused in what was found.
+fn answer(findings: Findings, refusal: Option<Refusal>) -> Result<Checked, CheckErr>
+    ensures { AnswersBy findings refusal result }
+{
+    match refusal {
+        Some(Refusal { rule, line }) => Err(CheckErr::Refused { rule, line }),
+        None => {
+            let Heading { planned, bound } = findings.heading;
+            Ok(Checked {
+                cost: stated_cost(&planned),
+                bound,
+            })
+        }
+    }
+}
+
+/// The answer to what one pass found.
+fn conclude(road: &Road, bytes: &[u8], findings: Findings) -> Result<Checked, CheckErr>
+    requires accepted { road_fault road.now ≡ None }
+    requires short { length bytes.now ≤ longest_text }
+    requires found { AreFound road.now bytes.now findings }
+    ensures { Answers road.now bytes.now result }
+{
+    let refusal = first_refusal(road, &findings);
+    answer(findings, refusal)
+}
+
+/// Whether the bytes are no more than a certificate's text may be.
+#[tactic(auto, unfolding(crate::specs::Validity::longest_text))]
+fn is_short(bytes: &[u8]) -> bool
+    ensures { IsTrue result ↔ length bytes.now ≤ longest_text }
+{
+    bytes.len() <= LONGEST_TEXT
+}
+
+fn answer_bytes(alloc: Global, road: &Road, bytes: &[u8]) -> Result<Checked, CheckErr>
+    requires { road_fault road.now ≡ None }
+    ensures { Answers road.now bytes.now result }
+{
+    if !is_short(bytes) {
+        return Err(CheckErr::Refused {
+            rule: CertRule::C1,
+            line: 0,
+        });
+    }
+    match find(alloc, road, bytes) {
+        Ok(findings) => conclude(road, bytes, findings),
+        Err(TextErr::Bad { line }) => Err(CheckErr::Refused {
+            rule: CertRule::C2,
+            line,
+        }),
+        Err(TextErr::NoMemory) => Err(CheckErr::NoMemory),
+    }
+}
+
+/// Checks a certificate of an accepted road, from any maker. `Ok`, with the stated cost and bound, comes exactly where the bytes are the
+/// text of a valid certificate, of at most 2^26 bytes: then the cost is that of an admissible plan which stands in the bytes, no
+/// admissible plan costs less than the bound, and without a bound no plan is admissible. `Refused` tells the first broken rule with its
+/// line. One leaf is held at a time.
+pub fn check(alloc: Global, road: &Road, bytes: &[u8]) -> Result<Checked, CheckErr>
+    requires { road_fault road.now ≡ None }
+    ensures answer { Answers road.now bytes.now result }
+    ensures rightly { RefusesRightly road.now bytes.now result }
+    ensures proved { IfOk result (IsProved road.now bytes.now) }
+    ensures one { HasOneRefusal road.now bytes.now }
+{
+    answer_bytes(alloc, road, bytes)
+}

@@ -1,0 +1,9 @@
+pub mod NodeText
+pub mod Steps
+pub mod CertText
+pub mod Certs
+pub mod WordForms
+pub mod Fractions
+pub mod StatedForms
+pub mod Misfits
+pub mod inside

@@ -1,0 +1,4 @@
+pub mod NodeReading
+pub mod StepReading
+pub mod CertReading
+pub mod WholeReading

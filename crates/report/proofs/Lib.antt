@@ -1,0 +1,4 @@
+pub mod LinesLemmas
+pub mod CellsLemmas
+pub mod WidthsLemmas
+pub mod OneReport

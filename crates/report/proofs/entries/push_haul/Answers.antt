@@ -1,0 +1,15 @@
+use Rattle.std.proofs.Common.{◌∙◌, sym}
+use Rattle.std.proofs.lemmas.Int.{to_z-of_z}
+use Rattle.report.specs.Reports.{is_nothing}
+use Rattle.report.proofs.CellsLemmas.{shown_by}
+use Rattle.report.proofs.LinesLemmas.{ok_gives, four_cells, else_added}
+use Rattle.report.proofs.entries.push_haul.Goals as goal
+
+pub returns : goal.returns
+returns c =
+    let fits = c.ranges.litres in
+    let stage = c.as_bytes.ensures.value ∙ c.in_ok-stage.ensures in
+    let litres = shown_by _ _ _ _ _ c.as_bytes-4.ensures.value (simp to_z-of_z at c.in_ok-litres.ensures) in
+    let some = sym (simp to_z-of_z at c.is_nothing.ensures) ∙ c.if-is_nothing.false in
+    ok_gives c.push_row.result c.push_row.ensures
+    (λ e. else_added (is_nothing c.args.litres) _ _ _ some (four_cells _ _ _ _ _ _ _ _ _ _ stage c.as_bytes-2.ensures.value c.as_bytes-3.ensures.value litres e))

@@ -1,0 +1,7 @@
+use Rattle.report.specs.inside.Listings.{listing_lines, entry_lines}
+use Rattle.report.proofs.LinesLemmas.{ok_gives, both_added}
+use Rattle.report.proofs.tables.push_hauls_back.Goals as goal
+
+pub returns : goal.returns
+unfolding listing_lines entry_lines
+returns c = ok_gives c.push_all-2.result c.push_all-2.ensures (λ h. both_added _ _ _ _ _ c.in_ok-push_all.ensures h)

@@ -1,0 +1,4 @@
+pub mod PlaceLemmas
+pub mod RootedLemmas
+pub mod LeastLemmas
+pub mod ProvingLaws

@@ -1,0 +1,4 @@
+pub mod RootedTrees
+pub mod Places
+pub mod Proving
+pub mod inside
