@@ -1,0 +1,14 @@
+pub mod ProductLemmas
+pub mod SlabLemmas
+pub mod LeavesLaw
+pub mod BetterLemmas
+pub mod GrowingLemmas
+pub mod SettlingLemmas
+pub mod EndingLemmas
+pub mod AskedSplits
+pub mod EnoughNodes
+pub mod SearchedLaw
+pub mod LeastLemmas
+pub mod LowestKeys
+pub mod DepthLaw
+pub mod PlanWidths

@@ -1,0 +1,5 @@
+pub mod Choices
+pub mod Grown
+pub mod Better
+pub mod Least
+pub mod Depths

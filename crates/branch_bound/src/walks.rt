@@ -1,0 +1,146 @@
+// Walks over the tree while it grows.
+ghost use Rattle.std.specs.Prelude.{◌≡◌, ◌+◌, ◌<◌, ◌≤◌, ◌^◌, ◌++◌, Some, OnOk};
+ghost use Rattle.best_first.specs.inside.Covers.{open_keys};
+ghost use Rattle.branch_bound.specs.inside.Grown.{grown_of, keys_of, waiting_count, waiting_at, parted_at, fractional_note, nodes_note};
+
+use crate::notes::NodeNote;
+use crate::work::{Optimum, Waiting, Work};
+use node_box::NodeBox;
+use road_types::Listed;
+use std::alloc::{AllocError, Global};
+
+/// The keys of the waiting leaves, in preorder, are put behind the others.
+pub(crate) fn push_keys(work: &Work, keys: &mut Vec<(i128, i128)>) -> Result<(), AllocError>
+    ensures { OnOk result (keys.new.items ≡ keys.old.items ++ open_keys (keys_of (grown_of work.now))) }
+{
+    match work {
+        Work::Dead { .. } | Work::Whole { .. } | Work::Stopped { .. } => Ok(()),
+        Work::Waiting { leaf } => {
+            keys.push((leaf.proved.value, leaf.proved.scale))?;
+            Ok(())
+        }
+        Work::Parted { first, second, .. } => {
+            push_keys(first.get(), keys)?;
+            push_keys(second.get(), keys)
+        }
+    }
+}
+
+/// The number of waiting leaves.
+pub(crate) fn waiting_count(work: &Work) -> usize
+    requires { waiting_count (grown_of work.now) < 2 ^ 32 }
+    ensures { result ≡ waiting_count (grown_of work.now) }
+{
+    match work {
+        Work::Dead { .. } | Work::Whole { .. } | Work::Stopped { .. } => 0,
+        Work::Waiting { .. } => 1,
+        Work::Parted { first, second, .. } => waiting_count(first.get())
+            + waiting_count(second.get()),
+    }
+}
+
+/// The waiting leaf with a number, counted from 0 in preorder.
+pub(crate) fn waiting_at(work: &Work, at: usize) -> &Waiting
+    requires count { waiting_count (grown_of work.now) < 2 ^ 32 }
+    requires at { at < waiting_count (grown_of work.now) }
+    ensures { waiting_at (grown_of work.now) at ≡ Some result.now }
+{
+    match work {
+        Work::Waiting { leaf } => leaf,
+        Work::Parted { first, second, .. } => {
+            let before = waiting_count(first.get());
+            if at < before {
+                waiting_at(first.get(), at)
+            } else {
+                waiting_at(second.get(), at - before)
+            }
+        }
+        Work::Dead { .. } | Work::Whole { .. } | Work::Stopped { .. } => unreachable!(),
+    }
+}
+
+/// The note of a split for which an optimum asks.
+pub(crate) fn fractional_note(optimum: Optimum) -> NodeNote
+    ensures { result ≡ fractional_note optimum }
+{
+    NodeNote::Fractional {
+        trail: optimum.trail,
+        den: optimum.den,
+        point: optimum.point,
+        scale: optimum.scale,
+        mults: optimum.mults,
+    }
+}
+
+/// The note of a leaf that is left open for want of nodes.
+pub(crate) fn nodes_note(optimum: Optimum) -> NodeNote
+    ensures { result ≡ nodes_note optimum }
+{
+    NodeNote::Nodes {
+        trail: optimum.trail,
+        den: optimum.den,
+        point: optimum.point,
+        scale: optimum.scale,
+        mults: optimum.mults,
+    }
+}
+
+/// The tree with the waiting leaf of a number, counted from 0 in preorder, split into two others. It takes no memory.
+pub(crate) fn part_at(
+    alloc: Global,
+    work: Work,
+    at: usize,
+    one: NodeBox<Work>,
+    two: NodeBox<Work>,
+) -> Work
+    requires count { waiting_count (grown_of work) < 2 ^ 32 }
+    ensures { grown_of result ≡ parted_at (grown_of work) at (grown_of one) (grown_of two) }
+{
+    match work {
+        Work::Waiting { leaf } => Work::Parted {
+            split: leaf.split,
+            key: (leaf.proved.value, leaf.proved.scale),
+            note: fractional_note(leaf.optimum),
+            first: one,
+            second: two,
+        },
+        Work::Parted {
+            split,
+            note,
+            key,
+            mut first,
+            mut second,
+        } => {
+            let before = waiting_count(first.get());
+            if at < before {
+                let old = first.replace(nothing(alloc));
+                first.replace(part_at(alloc, old, at, one, two));
+                Work::Parted {
+                    split,
+                    note,
+                    key,
+                    first,
+                    second,
+                }
+            } else {
+                let old = second.replace(nothing(alloc));
+                second.replace(part_at(alloc, old, at - before, one, two));
+                Work::Parted {
+                    split,
+                    note,
+                    key,
+                    first,
+                    second,
+                }
+            }
+        }
+        work => work,
+    }
+}
+
+/// A tree that stands in a place for a moment. It takes no memory.
+fn nothing(alloc: Global) -> Work {
+    Work::Dead {
+        mults: Listed::new(Vec::new(alloc)),
+    }
+}
