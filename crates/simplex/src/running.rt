@@ -1,5 +1,5 @@
 // Good exchanges, one after the other.
-ghost use Rattle.std.specs.Prelude.{◌≡◌, ◌≤◌, [], length, vec_capacity};
+ghost use Rattle.std.specs.Prelude.{◌≡◌, ◌↔◌, ◌≤◌, [], IsTrue, length, vec_capacity};
 ghost use Rattle.tableau.specs.Trails.{IsAfter};
 ghost use Rattle.simplex.specs.Choices.{IsChoice, StopsAfter};
 ghost use Rattle.simplex.specs.Givens.{given_of};
@@ -26,7 +26,7 @@ pub(crate) fn run<W: Whole>(
     ensures choice { IsChoice W.greatest (tableau_of W.meaning tableau.new) result }
     ensures spent { StopsAfter budget (length trail.new.items) result }
 {
-    for _turn in 0..budget {
+    while !is_spent(trail, budget) {
         let choice = tableau.choose();
         let Choice::Good(swap) = choice else {
             return choice;
@@ -37,4 +37,11 @@ pub(crate) fn run<W: Whole>(
         }
     }
     tableau.choose()
+}
+
+/// Whether as many exchanges as the budget were made.
+fn is_spent(trail: &[Exchange], budget: u32) -> bool
+    ensures { IsTrue result ↔ (budget ≤ length trail.now) }
+{
+    trail.len() >= budget as usize
 }

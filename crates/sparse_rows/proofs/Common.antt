@@ -3,7 +3,7 @@ use Rattle.std.proofs.Common.{◌≡◌, ℕ, zero, suc, ◌+◌, ◌*◌, ◌�
 use Rattle.std.specs.Prelude.{ℤ, pos, neg_ℤ, int_lt, ◌≢◌, ◌*ℤ◌, ◌<ℤ◌, ◌≤ℤ◌, unsigned_abs}
 use Rattle.std.specs.List.{All}
 use Rattle.std.proofs.lemmas.Int.{ints, unsigned_abs-mul}
-use Rattle.std.proofs.lemmas.List.{length-take, take-take, get_or-take}
+use Rattle.std.proofs.lemmas.List.{length-take, take-take, take_all, get_or-take}
 use Rattle.std.proofs.lemmas.List.Elements.{All-nil, All-take, All-more, All-weaker}
 use Rattle.std.proofs.Math.Nat.{mul-le-mul_right}
 use Rattle.algebra.proofs.Products.{int_mul_assoc, int_mul_neg}
@@ -79,6 +79,54 @@ module _ {A : Type 0} (f : A → ℤ) where
     greatest = λ k d all. h.greatest k d (All-take (λ t. Divides d (k *ℤ f t.value)) i terms all);
     not_negative = h.not_negative;
   }
+
+  -- g is never negative, divides the values of the first i terms, and what divides the h-fold of all values divides the h-fold of g
+  pub record IsGathering (terms : List (Term A)) (i : ℕ) (g : ℤ) : Type 0 where
+    pub divides : All (λ t. Divides g (f t.value)) (take i terms)
+    pub greatest : (h d : ℤ) → All (λ t. Divides d (h *ℤ f t.value)) terms → Divides d (h *ℤ g)
+    pub not_negative : pos 0 ≤ℤ g
+
+  pub gathering_none : (terms : List (Term A)) (g : ℤ) → ((h d : ℤ) → All (λ t. Divides d (h *ℤ f t.value)) terms → Divides d (h *ℤ g)) → pos 0 ≤ℤ g → IsGathering terms 0 g
+  gathering_none terms g greatest low = record { divides = All-nil (λ t. Divides g (f t.value)); greatest = greatest; not_negative = low }
+
+  pub gathering_more : (terms : List (Term A)) (i : ℕ) (t : Term A) (g n : ℤ) → i < length terms → t ≡ get_or terms i t → IsGathering terms i g
+      → IsGreatestCommonDivisor (f t.value) g n → IsGathering terms (i + 1) n
+  gathering_more terms i t g n l e h is = record {
+    divides = (let P : Term A → Type 0 = λ x. Divides n (f x.value) in
+        All-more P terms i t l (All-weaker (λ x. Divides g (f x.value)) P (λ x p. divides_trans n g (f x.value) is.divides_right p) (take i terms) h.divides) (subst P e is.divides_left));
+    greatest = λ k d all.
+        let P : Term A → Type 0 = λ x. Divides d (k *ℤ f x.value) in
+        gcd_scaled (f t.value) g n k d is (subst P (sym e) (all i t l)) (h.greatest k d all);
+    not_negative = is.not_negative;
+  }
+
+  -- where g is 1, and where all terms are gathered
+  pub gathering_one : (terms : List (Term A)) (i : ℕ) (g : ℤ) → IsGathering terms i g → g ≡ pos 1 → IsGathered terms g
+  gathering_one terms i g h e = record {
+    divides = λ k d l. let P : ℤ → Type 0 = λ x. Divides x (f (get_or terms k d).value) in subst P (sym e) (one_divides (f (get_or terms k d).value));
+    greatest = h.greatest;
+    not_negative = h.not_negative;
+  }
+
+  pub gathering_all : (terms : List (Term A)) (i : ℕ) (g : ℤ) → length terms ≤ i → IsGathering terms i g → IsGathered terms g
+  gathering_all terms i g l h = record {
+    divides = subst (λ (ts : List (Term A)). All (λ t. Divides g (f t.value)) ts) (take_all i terms l) h.divides;
+    greatest = h.greatest;
+    not_negative = h.not_negative;
+  }
+
+  -- of two numbers whose h-folds d divides, one
+  pub either_divides : (h d a b z : ℤ) → (z ≡ a) ⊎ (z ≡ b) → Divides d (h *ℤ a) → Divides d (h *ℤ b) → Divides d (h *ℤ z)
+  either_divides h d a b z which p q = ⊎_elim
+      (λ (e : z ≡ a). subst (λ (x : ℤ). Divides d (h *ℤ x)) (sym e) p)
+      (λ (e : z ≡ b). subst (λ (x : ℤ). Divides d (h *ℤ x)) (sym e) q)
+      which
+
+  pub zero_scaled : (h d z : ℤ) → z ≡ pos 0 → Divides d (h *ℤ z)
+  zero_scaled h d z e = subst (λ (x : ℤ). Divides d x) (sym (ap (λ x. h *ℤ x) e ∙ (let n : h *ℤ pos 0 ≡ pos 0 = omega (arith, ints) in n))) (divides_zero d)
+
+  pub opposite_scaled : (h d a z : ℤ) → z ≡ neg_ℤ a → Divides d (h *ℤ a) → Divides d (h *ℤ z)
+  opposite_scaled h d a z e p = (neg_ℤ p.0, ap (λ x. h *ℤ x) e ∙ (int_mul_neg h a ∙ (ap neg_ℤ p.1 ∙ sym (int_mul_neg d p.0))))
 
   entry_at_head : (t : Term A) (ts : List (Term A)) → entry_of f (t ∷ ts) t.column ≡ f t.value
   entry_at_head t ts = grind arith

@@ -90,6 +90,9 @@ module _ {A : Type 0} (f : A → ℤ) (row : List (Term A)) (without : ℕ) (low
     pub summed_without : t.column ≡ without → IsSummed end (a + 1) total
     summed_without same = summed_more total (let z = share_without t.column same in omega (arith, ints))
 
+    pub summed_nothing : (x : ℤ) → share f row without low high at_high t.column ≡ x *ℤ pos 0 → IsSummed end (a + 1) total
+    summed_nothing x e = summed_more total (let n : x *ℤ pos 0 ≡ pos 0 = omega (arith, ints) in omega (arith, ints))
+
     pub share_product : without ≢ t.column → share f row without low high at_high t.column ≡ f t.value *ℤ standing_at f low high at_high t.column
     share_product differ = share_other t.column differ ∙ ap (λ x. x *ℤ standing_at f low high at_high t.column) (next_entry f row a h.from end h.left t l e)
 

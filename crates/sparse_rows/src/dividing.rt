@@ -1,25 +1,56 @@
 // Rows divided by the greatest common divisor of their entries.
-ghost use Rattle.std.specs.Prelude.{◌≡◌, ◌≢◌, ◌↔◌, ℕ, ◌<◌, ◌≤◌, length, ℤ, pos, ◌*ℤ◌, ◌<ℤ◌, IfOk, IfErr, IfSome, IfNone, IsTrue, unsigned_abs};
+ghost use Rattle.std.specs.Prelude.{◌≡◌, ◌≢◌, ◌↔◌, ℕ, ◌<◌, ◌≤◌, length, ℤ, pos, ◌*ℤ◌, ◌<ℤ◌, IfOk, IfErr, IfSome, IfNone, IsTrue, ◌⊎◌, ◌≤ℤ◌, unsigned_abs};
+ghost use Rattle.std.specs.List.{All};
 ghost use Rattle.numbers.specs.Divisors.{Divides};
 ghost use Rattle.sparse_rows.specs.Lines.{IsLine, entry_of};
 ghost use Rattle.sparse_rows.specs.Cells.{IsCommonDivisor};
 
-use numbers::Whole;
+use crate::cells::is_negative;
+use numbers::{W64, Whole};
 use std::cmp::Ordering;
 use term_store::{RowMut, Term};
 
-/// The greatest common divisor of the entries of a row, 0 of none.
+/// The greatest common divisor of the entries of a row, 0 of none. It begins with an entry of least magnitude, so that the
+/// divisions are few.
 pub fn common_divisor<T: Whole>(terms: &[Term<T>]) -> T
     ensures { (end : ℕ) → IsLine T.meaning 0 end terms.now → IsCommonDivisor (entry_of T.meaning terms.now) end (T.meaning result) }
 {
-    let mut divisor = T::zero();
+    let mut divisor = least_magnitude(terms);
     for term in terms {
-        divisor = divisor.gcd(term.value);
+        divisor = term.value.gcd(divisor);
         if is_one(divisor) {
             return divisor;
         }
     }
     divisor
+}
+
+/// The least magnitude of the entries of a row, 0 of none.
+fn least_magnitude<T: Whole>(terms: &[Term<T>]) -> T
+    ensures divides { (h : ℤ) (d : ℤ) → All (λ t. Divides d (h *ℤ T.meaning t.value)) terms.now → Divides d (h *ℤ T.meaning result) }
+    ensures not_negative { pos 0 ≤ℤ T.meaning result }
+{
+    let mut least = T::zero();
+    for term in terms {
+        least = lesser(least, term.value);
+    }
+    if is_negative(least) {
+        least.negated()
+    } else {
+        least
+    }
+}
+
+/// Of two numbers the one of lesser magnitude; the second one where the first is 0.
+fn lesser<T: Whole>(a: T, b: T) -> T
+    ensures { (result ≡ a) ⊎ (result ≡ b) }
+{
+    let size = a.wide().unsigned_abs();
+    if size == 0 || b.wide().unsigned_abs() < size {
+        b
+    } else {
+        a
+    }
 }
 
 /// Puts the row of these terms, each divided by `divisor`, into `row`, in the narrower range.
@@ -69,7 +100,24 @@ pub(crate) fn part<T: Whole>(value: T, divisor: T) -> T
     if is_one(divisor) {
         return value;
     }
-    value.exact_part(divisor)
+    match narrow_part(value.wide(), divisor.wide()) {
+        Some(narrow) => match T::of_wide(narrow) {
+            Some(quotient) => quotient,
+            None => value.exact_part(divisor),
+        },
+        None => value.exact_part(divisor),
+    }
+}
+
+/// The quotient by a divisor that divides, by a division of 64 bits. `None` where one of the numbers has more.
+fn narrow_part(value: i128, divisor: i128) -> Option<i128>
+    requires nonzero { divisor ≢ pos 0 }
+    requires divides { Divides divisor value }
+    ensures { IfSome result (λ q. value ≡ divisor *ℤ q) }
+{
+    let narrow = W64::of_wide(value)?;
+    let by = W64::of_wide(divisor)?;
+    Some(narrow.exact_part(by).wide())
 }
 
 /// Whether the number is 1.

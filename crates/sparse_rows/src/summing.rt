@@ -4,7 +4,7 @@ ghost use Rattle.algebra.specs.Sums.{sum_to};
 ghost use Rattle.sparse_rows.specs.Lines.{IsLine, entry_of};
 ghost use Rattle.sparse_rows.specs.Sums.{meaning_at, share, standing_at};
 
-use crate::cells::widened;
+use crate::cells::{is_zero, widened};
 use numbers::Whole;
 use term_store::Term;
 
@@ -35,6 +35,9 @@ pub fn row_sum<W: Whole, T: Whole>(
             continue;
         }
         let bound: W = standing(low, high, at_high, column as usize);
+        if is_zero(bound) {
+            continue;
+        }
         let Some(product) = product_of::<W, T>(term.value, bound) else {
             return Err(column);
         };

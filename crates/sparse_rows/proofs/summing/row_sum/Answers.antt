@@ -1,7 +1,7 @@
 use Rattle.std.proofs.Common.{◌≢◌, ◌<◌, ◌≤◌, inl, inr, length, arith, sym, ◌∙◌, ap, subst}
 use Rattle.std.specs.Prelude.{ℤ, unsigned_abs, ◌+ℤ◌, ◌*ℤ◌}
-use Rattle.sparse_rows.proofs.Tests.{beyond}
-use Rattle.sparse_rows.proofs.SumsLemmas.{column_first, column_end, share_product, summed_sum, summed_more, summed_without, summed_all}
+use Rattle.sparse_rows.proofs.Tests.{beyond, told_true}
+use Rattle.sparse_rows.proofs.SumsLemmas.{column_first, column_end, share_product, summed_sum, summed_more, summed_without, summed_nothing, summed_all}
 use Rattle.sparse_rows.proofs.summing.row_sum.Goals as goal
 
 pub standing-bound-requires-clause-column : goal.standing-bound-requires-clause-column
@@ -48,3 +48,11 @@ pub returns-clause-sum : goal.returns-clause-sum
 returns-clause-sum g c =
     let l : length c.args.row.now ≤ c.loop-term.term-index = omega arith in
     summed_all g.W.Whole.meaning c.args.row.now c.args.without c.args.low.now c.args.high.now c.args.at_high.now (length c.args.low.now) c.loop-term.term-index _ c.loop-term.invariant l
+
+pub loop-term-preserved-then-is_zero : goal.loop-term-preserved-then-is_zero
+loop-term-preserved-then-is_zero g c =
+    let differ : c.args.without ≢ c.term-item.result.column = λ e. c.if-column-without.false (sym e) in
+    let e = share_product g.W.Whole.meaning c.args.row.now c.args.without c.args.low.now c.args.high.now c.args.at_high.now (length c.args.low.now) c.loop-term.term-index _ c.loop-term.invariant c.term-item.result c.loop-term-test.true c.term-item.is differ in
+    let bound = sym c.standing-bound.ensures ∙ told_true c.is_zero.result c.if-is_zero.true c.is_zero.ensures in
+    summed_nothing g.W.Whole.meaning c.args.row.now c.args.without c.args.low.now c.args.high.now c.args.at_high.now (length c.args.low.now) c.loop-term.term-index _ c.loop-term.invariant c.term-item.result c.loop-term-test.true c.term-item.is
+    (g.W.Whole.meaning c.term-item.result.value) (e ∙ ap (λ y. g.W.Whole.meaning c.term-item.result.value *ℤ y) bound)
