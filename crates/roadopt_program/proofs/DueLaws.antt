@@ -15,7 +15,7 @@ use Rattle.plan_text.specs.Misfits.{refused_line}
 use Rattle.plan_text.proofs.AnswerLaws.{plan_of_text-exact}
 use Rattle.numbers.proofs.FractionsLemmas.{same_value_fraction}
 use Rattle.roadopt_program.specs.declared.forms.Verb.{Verb}
-use Rattle.roadopt_program.specs.declared.forms.Verb.TheVariants.{Judge, Check}
+use Rattle.roadopt_program.specs.declared.forms.Verb.TheVariants.{Judge, Check, Replay}
 use Rattle.roadopt_program.specs.declared.status.Status.{Status}
 use Rattle.roadopt_program.specs.declared.status.Status.TheVariants.{Done, PlanBroken, PlanRefused, CertRefused, Missing}
 use Rattle.roadopt_program.specs.Due.{◌>>=◌, keeps_rules, is_table_there, road_due, FollowsRoad, Follows, IsDue, Due}
@@ -25,6 +25,10 @@ use Rattle.roadopt_program.specs.Inputs.{Given, IsGivenIfNamed, table_named, roa
 use Rattle.roadopt_program.specs.Judging.{PrintsFraction, PrintsFirstBroken, PrintsRefusedLine, OfPlan, JudgesText, OfPlanBytes}
 use Rattle.roadopt_program.specs.Printed.{plan_refused_line, broken_line, admissible_line, cert_refused_line, valid_line}
 use Rattle.roadopt_program.specs.CertChecking.{PrintsValid, PrintsRefusal, OfCertBytes}
+use Rattle.roadopt_program.specs.Replaying.{PrintsReport, OfReplayed}
+use Rattle.report.specs.Lines.{AreLines}
+use Rattle.report.proofs.OneReport.{one_text}
+use Rattle.cert_report.specs.CertReport.{cert_lines}
 use Rattle.road_types.specs.Accepted.{IsAccepted}
 use Rattle.cert_text.specs.inside.CertReading.{cert_of_text}
 use Rattle.cert_checker.specs.Refusals.{refused}
@@ -158,6 +162,22 @@ same_of_cert road acc bytes Done _ l k a b = absurd b
 same_of_cert road acc bytes CertRefused _ l k a b = absurd b
 same_of_cert road acc bytes _ t l k a b = absurd a
 
+-- ---- the report is one
+
+same_report : (road : Road) (acc : IsAccepted road) (bytes l k : List ℕ) → PrintsReport road bytes l → PrintsReport road bytes k → l ≡ k
+same_report road acc bytes l k a b =
+    let same = same_cert road acc bytes a.cert b.cert a.valid.text b.valid.text in
+    one_text (cert_lines road b.cert) l k (subst (λ c. AreLines (cert_lines road c) l) same a.report) b.report
+
+same_replayed : (road : Road) (acc : IsAccepted road) (bytes : List ℕ) (s t : Status) (l k : List ℕ) → OfReplayed road bytes s l → OfReplayed road bytes t k → (s ≡ t) × (l ≡ k)
+same_replayed road acc bytes Done Done l k a b = (refl, same_report road acc bytes l k a b)
+same_replayed road acc bytes CertRefused CertRefused l k a b = (refl, same_refusal_line road acc bytes l k a b)
+same_replayed road acc bytes Done CertRefused l k a b = absurd (b.none a.cert a.valid)
+same_replayed road acc bytes CertRefused Done l k a b = absurd (a.none b.cert b.valid)
+same_replayed road acc bytes Done _ l k a b = absurd b
+same_replayed road acc bytes CertRefused _ l k a b = absurd b
+same_replayed road acc bytes _ t l k a b = absurd a
+
 -- ---- the end is one
 
 same_end : (a b : End) → a.status ≡ b.status → a.output ≡ b.output → a.file ≡ b.file → a ≡ b
@@ -178,6 +198,10 @@ same_on_road Judge road (Some bytes) a b p q =
 same_on_road Check road None a b p q = p ∙ sym q
 same_on_road Check road (Some bytes) a b p q =
     let both = same_of_cert road (IsAccepted-from_fault road p.0) bytes a.status b.status a.output b.output p.1.0 q.1.0 in
+    same_end a b both.0 both.1 (p.1.1 ∙ sym q.1.1)
+same_on_road Replay road None a b p q = p ∙ sym q
+same_on_road Replay road (Some bytes) a b p q =
+    let both = same_replayed road (IsAccepted-from_fault road p.0) bytes a.status b.status a.output b.output p.1.0 q.1.0 in
     same_end a b both.0 both.1 (p.1.1 ∙ sym q.1.1)
 
 same_after : (verb : Verb) (made : Result Road End) (other : Option (List ℕ)) (a b : End) → Follows verb made other a → Follows verb made other b → a ≡ b
@@ -218,12 +242,20 @@ cert_status road bytes Done l h = refl
 cert_status road bytes CertRefused l h = refl
 cert_status road bytes _ l h = absurd h
 
+replayed_status : (road : Road) (bytes : List ℕ) (s : Status) (l : List ℕ) → OfReplayed road bytes s l → IsTrue (may_be_due s)
+unfolding may_be_due
+replayed_status road bytes Done l h = refl
+replayed_status road bytes CertRefused l h = refl
+replayed_status road bytes _ l h = absurd h
+
 road_status : (verb : Verb) (road : Road) (other : Option (List ℕ)) (end : End) → FollowsRoad verb road other end → IsTrue (may_be_due end.status)
 unfolding may_be_due
 road_status Judge road None end h = ap (λ e. may_be_due e.status) h
 road_status Judge road (Some bytes) end h = bytes_status road bytes end.status end.output h.0
 road_status Check road None end h = ap (λ e. may_be_due e.status) h
 road_status Check road (Some bytes) end h = cert_status road bytes end.status end.output h.1.0
+road_status Replay road None end h = ap (λ e. may_be_due e.status) h
+road_status Replay road (Some bytes) end h = replayed_status road bytes end.status end.output h.1.0
 
 kept_status : (verb : Verb) (made : Result Road Fault) (other : Option (List ℕ)) (end : End) → Follows verb (keeps_rules made) other end → IsTrue (may_be_due end.status)
 unfolding may_be_due
@@ -254,11 +286,18 @@ cert_missing road bytes Done l h e = omega (arith, ap exit_status e)
 cert_missing road bytes CertRefused l h e = omega (arith, ap exit_status e)
 cert_missing road bytes _ l h e = h
 
+replayed_missing : (road : Road) (bytes : List ℕ) (s : Status) (l : List ℕ) → OfReplayed road bytes s l → s ≡ Missing → ⊥
+replayed_missing road bytes Done l h e = omega (arith, ap exit_status e)
+replayed_missing road bytes CertRefused l h e = omega (arith, ap exit_status e)
+replayed_missing road bytes _ l h e = h
+
 road_missing : (verb : Verb) (road : Road) (other : Option (List ℕ)) (end : End) → FollowsRoad verb road other end → end.status ≡ Missing → end ≡ missing_end
 road_missing Judge road None end h e = h
 road_missing Judge road (Some bytes) end h e = absurd (bytes_missing road bytes end.status end.output h.0 e)
 road_missing Check road None end h e = h
 road_missing Check road (Some bytes) end h e = absurd (cert_missing road bytes end.status end.output h.1.0 e)
+road_missing Replay road None end h e = h
+road_missing Replay road (Some bytes) end h e = absurd (replayed_missing road bytes end.status end.output h.1.0 e)
 
 kept_missing : (verb : Verb) (made : Result Road Fault) (other : Option (List ℕ)) (end : End) → Follows verb (keeps_rules made) other end → end.status ≡ Missing → end ≡ missing_end
 kept_missing verb (Err fault) other end h e = absurd (omega (arith, ap (λ x. exit_status x.status) h, ap exit_status e))

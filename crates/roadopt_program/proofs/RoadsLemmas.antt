@@ -1,6 +1,6 @@
 -- A road by its file and by the section table that this names.
 use Rattle.std.specs.Prelude.{ℕ, Option, Some, None, Result, Ok, Err, IfOk, List}
-use Rattle.std.proofs.Common.{◌≡◌, sym, refl, subst}
+use Rattle.std.proofs.Common.{◌≡◌, refl, subst}
 use Rattle.outside.specs.Files.{Files}
 use Rattle.road_types.specs.declared.fault.Fault.{Fault}
 use Rattle.road_types.specs.declared.road.Road.{Road}

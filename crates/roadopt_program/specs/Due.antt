@@ -8,13 +8,14 @@ use Rattle.road_types.specs.declared.fault.Fault.{Fault}
 use Rattle.road_types.specs.declared.road.Road.{Road}
 use Rattle.road_file.specs.RoadOf.{table_name_of, road_of}
 use Rattle.roadopt_program.specs.declared.forms.Verb.{Verb}
-use Rattle.roadopt_program.specs.declared.forms.Verb.TheVariants.{Judge, Check}
+use Rattle.roadopt_program.specs.declared.forms.Verb.TheVariants.{Judge, Check, Replay}
 use Rattle.roadopt_program.specs.declared.status.Status.TheVariants.{RoadRefused}
 use Rattle.roadopt_program.specs.Ends.{End, said, missing_end}
 use Rattle.roadopt_program.specs.Forms.{Command, command_of}
 use Rattle.roadopt_program.specs.Inputs.{Given, AreGiven}
 use Rattle.roadopt_program.specs.Judging.{Judges}
 use Rattle.roadopt_program.specs.CertChecking.{Checks}
+use Rattle.roadopt_program.specs.Replaying.{Replays}
 use Rattle.roadopt_program.specs.Printed.{road_refused_line}
 
 -- the first step, and with its value the next one; the end that is due early ends them
@@ -51,6 +52,7 @@ road_due road table = do
 abbrev pub FollowsRoad : Verb → Road → Option (List ℕ) → End → Type 0
 FollowsRoad Judge road plan end = Judges road plan end
 FollowsRoad Check road cert end = Checks road cert end
+FollowsRoad Replay road cert end = Replays road cert end
 
 -- the end for what was made of the road's file
 abbrev pub Follows : Verb → Result Road End → Option (List ℕ) → End → Type 0

@@ -12,7 +12,7 @@ use Rattle.road_types.specs.declared.fault.Fault.{Fault}
 use Rattle.road_file.specs.RoadOf.{table_name_of}
 use Rattle.cert_checker.specs.Validity.{longest_text}
 use Rattle.roadopt_program.specs.declared.forms.Verb.{Verb}
-use Rattle.roadopt_program.specs.declared.forms.Verb.TheVariants.{Judge, Check}
+use Rattle.roadopt_program.specs.declared.forms.Verb.TheVariants.{Judge, Check, Replay}
 use Rattle.roadopt_program.specs.Forms.{Command}
 
 -- one more byte than a road file may have
@@ -27,6 +27,7 @@ cert_limit = longest_text + 1
 abbrev pub other_limit : Verb → ℕ
 other_limit Judge = road_limit
 other_limit Check = cert_limit
+other_limit Replay = cert_limit
 
 -- where files are told: the first `most` bytes of the named one, or none where there is no such file
 abbrev pub IsGiven : Option Files → List ℕ → ℕ → Option (List ℕ) → Type 0

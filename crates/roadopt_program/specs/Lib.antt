@@ -5,6 +5,7 @@ pub mod Ends
 pub mod Inputs
 pub mod Judging
 pub mod CertChecking
+pub mod Replaying
 pub mod Due
 pub mod Runs
 pub mod inside

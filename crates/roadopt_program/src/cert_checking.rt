@@ -21,7 +21,7 @@ fn valid(alloc: Global, checked: &Checked) -> Result<Ending, AllocError>
 }
 
 /// The end for bytes that are no valid certificate of the road.
-fn cert_refused(alloc: Global, rule: CertRule, line: usize) -> Result<Ending, AllocError>
+pub(crate) fn cert_refused(alloc: Global, rule: CertRule, line: usize) -> Result<Ending, AllocError>
     ensures status { IfOk result (λ e. e.status ≡ Status.CertRefused) }
     ensures line { IfOk result (λ e. e.output.items ≡ cert_refused_line rule line) }
 {

@@ -9,6 +9,7 @@ use crate::ending::{Ending, missing};
 use crate::forms::{Command, Verb};
 use crate::inputs::{Lost, read_file};
 use crate::judging::judge_bytes;
+use crate::replaying::replay_bytes;
 use crate::roads::find_road;
 use outside::Store;
 use road_types::Road;
@@ -34,6 +35,7 @@ fn end_on_road<S: Store>(
     match command.verb {
         Verb::Judge => Ok(judge_bytes(alloc, road, bytes.as_slice())?),
         Verb::Check => Ok(check_bytes(alloc, road, bytes.as_slice())?),
+        Verb::Replay => Ok(replay_bytes(alloc, road, bytes.as_slice())?),
     }
 }
 

@@ -9,6 +9,7 @@ ghost use Rattle.roadopt_program.specs.Forms.{is_empty, verb_of, over_files, com
 pub(crate) enum Verb {
     Judge,
     Check,
+    Replay,
 }
 
 /// What is to be done, the name of the road's file, and that of the further one.
@@ -32,6 +33,8 @@ fn verb_of(word: &str) -> Option<Verb>
         Some(Verb::Judge)
     } else if word == "check" {
         Some(Verb::Check)
+    } else if word == "replay" {
+        Some(Verb::Replay)
     } else {
         None
     }
@@ -50,7 +53,7 @@ fn over_files<'a>(verb: Option<Verb>, road: &'a str, other: &'a str) -> Option<C
     }
 }
 
-/// The command, where the words are `judge ROAD PLAN` or `check ROAD CERT`.
+/// The command, where the words are `judge ROAD PLAN`, `check ROAD CERT` or `replay ROAD CERT`.
 pub(crate) fn command_of(words: &[String]) -> Option<Command<'_>>
     ensures { option_map (λ c. record { verb = c.verb; road = c.road.now; other = c.other.now }) result
         ≡ command_of (map string_bytes words.now) }

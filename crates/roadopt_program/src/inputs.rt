@@ -54,7 +54,7 @@ impl Verb {
     {
         match self {
             Verb::Judge => road_limit(),
-            Verb::Check => cert_limit(),
+            Verb::Check | Verb::Replay => cert_limit(),
         }
     }
 }

@@ -10,6 +10,7 @@ mod inputs;
 mod judging;
 mod lines;
 mod program;
+mod replaying;
 mod roads;
 mod status;
 

@@ -30,8 +30,9 @@ pub struct Answer {
 
 /// Runs the program over a store and a sink; `words` are those of the command line, without the program's name.
 ///
-/// `Usage` where they aren't `judge ROAD PLAN`. Else the road file is read, then the section table that it names, then the plan
-/// file, and the line for the plan is printed: the first thing that is wrong on this way is the end. `NoMemory` may come at any step before the line is printed.
+/// `Usage` where they aren't `judge ROAD PLAN`, `check ROAD CERT` or `replay ROAD CERT`. Else the road file is read, then the section
+/// table that it names, then the plan or the certificate, and the line for it or its report is printed: the first thing that is wrong on
+/// this way is the end. `NoMemory` may come at any step before anything is printed.
 #[tactic(auto, using(crate::proofs::RunLaws::usage_as_due, crate::proofs::DueLaws::one_end))]
 pub fn run<S: Store, O: Sink>(alloc: Global, words: &[String], store: &mut S, out: &mut O) -> Answer
     // The words, before anything is read.

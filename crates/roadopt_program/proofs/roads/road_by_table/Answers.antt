@@ -1,4 +1,4 @@
-use Rattle.std.proofs.Common.{rules, Some}
+use Rattle.std.proofs.Common.{Some}
 use Rattle.roadopt_program.specs.Inputs.{IsGiven, road_limit}
 use Rattle.roadopt_program.proofs.RoadsLemmas.{made_by_table}
 use Rattle.roadopt_program.proofs.roads.road_by_table.Goals as goal

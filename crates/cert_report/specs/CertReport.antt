@@ -1,0 +1,69 @@
+-- The report of a certificate: of what it states and of the leaves of its tree that were left open, by cause. And what replaying the
+-- bytes of a certificate gives.
+use Rattle.std.specs.Prelude.{◌≡◌, ℕ, ◌+◌, ⊤, Option, Some, None, Result, Ok, Err, List}
+use Rattle.road_types.specs.declared.road.Road.{Road}
+use Rattle.plan_rules.specs.declared.plan.Plan.{Plan}
+use Rattle.cert_tree.specs.declared.tree.Why.{Why}
+use Rattle.cert_tree.specs.declared.tree.Why.TheVariants.{Nodes, Pivots, Width}
+use Rattle.cert_tree.specs.Trees.{BoxTree, low, dead, fork}
+use Rattle.cert_text.specs.declared.heading.PricedPlan.{PricedPlan}
+use Rattle.cert_text.specs.CertText.{Certificate}
+use Rattle.cert_checker.specs.Validity.{IsValidText}
+use Rattle.cert_checker.specs.Refusals.{refused, IsFirstRefusal, IsNoValidText}
+use Rattle.cert_checker.specs.declared.refusal.CertRule.{CertRule}
+use Rattle.cert_checker.specs.declared.refusal.CheckErr.{CheckErr}
+use Rattle.cert_checker.specs.declared.refusal.CheckErr.TheVariants.{Refused, NoMemory}
+use Rattle.report.specs.declared.findings.OpenLeaves.{OpenLeaves}
+use Rattle.report.specs.Lines.{Line, Adds}
+use Rattle.report.specs.Reports.{report_lines}
+
+-- 1 where a leaf was left open for the cause, else 0
+
+abbrev pub for_nodes : Option Why → ℕ
+for_nodes (Some Nodes) = 1
+for_nodes _ = 0
+
+abbrev pub for_pivots : Option Why → ℕ
+for_pivots (Some Pivots) = 1
+for_pivots _ = 0
+
+abbrev pub for_width : Option Why → ℕ
+for_width (Some Width) = 1
+for_width _ = 0
+
+-- the sum over the low leaves of a tree
+abbrev pub leaf_sum : (Option Why → ℕ) → BoxTree → ℕ
+leaf_sum count (low scale mults cause) = count cause
+leaf_sum count (dead mults) = 0
+leaf_sum count (fork split first second) = leaf_sum count first + leaf_sum count second
+
+-- the leaves of a tree that were left open
+abbrev pub open_leaves : BoxTree → OpenLeaves
+open_leaves tree = record { nodes = leaf_sum for_nodes tree; pivots = leaf_sum for_pivots tree; width = leaf_sum for_width tree }
+
+-- the plan that is stated with a cost
+abbrev pub plan_stated : Option PricedPlan → Option Plan
+plan_stated None = None
+plan_stated (Some priced) = Some priced.plan
+
+-- the report of a certificate
+abbrev pub cert_lines : Road → Certificate → List Line
+cert_lines road cert = report_lines road (plan_stated cert.planned) cert.bound (open_leaves cert.tree)
+
+-- the bytes are the text of a valid certificate, and its report was added
+pub record AddsReport (road : Road) (bytes before after : List ℕ) : Type 0 where
+  pub cert : Certificate
+  pub valid : IsValidText road bytes cert
+  pub adds : Adds (cert_lines road cert) before after
+
+-- the bytes are the text of no valid certificate, this is first refused, and nothing was added
+pub record IsRefused (road : Road) (bytes : List ℕ) (rule : CertRule) (line : ℕ) (before after : List ℕ) : Type 0 where
+  pub none : IsNoValidText road bytes
+  pub first : IsFirstRefusal road bytes (refused rule line)
+  pub kept : after ≡ before
+
+-- the report was added, or the bytes are refused; after want of memory nothing was added
+abbrev pub Replays : Road → List ℕ → List ℕ → Result ⊤ CheckErr → List ℕ → Type 0
+Replays road bytes before (Ok nothing) after = AddsReport road bytes before after
+Replays road bytes before (Err (Refused rule line)) after = IsRefused road bytes rule line before after
+Replays road bytes before (Err NoMemory) after = after ≡ before

@@ -1,0 +1,2 @@
+pub mod CertReport
+pub mod inside
