@@ -1,25 +1,24 @@
 -- The splits for which a point of a box's program asks can be made: a block opened in part at a stage can be opened by it or not, and a
 -- section whose volume isn't exact has a breakpoint strictly inside its range.
-use Rattle.std.proofs.Common.{◌≡◌, ◌⊎◌, ℕ, zero, suc, ◌+◌, ◌≤◌, ◌<◌, Bool, true, false, cond, nat_lt, nat_le, List, length, map, get_or, refl, sym, ap, subst, arith, inl, inr, ⊎_elim}
-use Rattle.std.specs.Prelude.{ℤ, pos, ◌*ℤ◌, ◌≤ℤ◌, ◌<ℤ◌, if◌then◌else◌}
+use Rattle.std.proofs.Common.{◌≡◌, ℕ, suc, ◌≤◌, ◌<◌, Bool, true, false, nat_lt, nat_le, List, get_or, sym, ap, subst, arith, inl, inr, ⊎_elim}
+use Rattle.std.specs.Prelude.{ℤ, pos, ◌≤ℤ◌, if◌then◌else◌}
 use Rattle.std.proofs.lemmas.Int.{ints}
 use Rattle.std.proofs.lemmas.Bool.{cases_lt}
 use Rattle.std.proofs.lemmas.Bool.Decides.{nat_tests}
 use Rattle.std.proofs.lemmas.List.{get_or-map, length-map}
 use Rattle.algebra.proofs.Products.{int_zero_mul, int_one_mul}
 use Rattle.programs.specs.Programs.{bounds_at}
-use Rattle.programs.specs.Points.{IsPoint, numerator_at}
-use Rattle.road_types.specs.Numbered.{numbered, IsNumber}
+use Rattle.programs.specs.Points.{IsPoint}
 use Rattle.road_types.specs.Accepted.{IsAccepted}
 use Rattle.road_types.specs.Ranges.{height_range}
-use Rattle.road_types.specs.Road.{section, section_count, block_count}
+use Rattle.road_types.specs.Road.{section}
 use Rattle.road_types.specs.Columns.{columns_of, bounds_of, opened_bounds}
 use Rattle.road_types.specs.declared.road.Road.{Road}
 use Rattle.road_types.specs.declared.column.Column.{Column}
 use Rattle.road_types.specs.declared.column.Column.TheVariants.{Opened}
 use Rattle.plan_rules.specs.Rules.{IsWithin}
 use Rattle.volume_lines.specs.InnerBreakpoints.{HasBreakpointInside}
-use Rattle.road_points.specs.Shown.{shown, shown_at, IsWholeAt}
+use Rattle.road_points.specs.Shown.{shown, shown_at}
 use Rattle.road_points.specs.ColumnKinds.{IsKindOf}
 use Rattle.road_points.proofs.RoadKinds.{kinds_all, number_at}
 use Rattle.milp_builder.specs.Boxes.{opening_range, IsBoxOf}
@@ -31,6 +30,8 @@ use Rattle.milp_builder.specs.declared.boxes.Split.{Split}
 use Rattle.milp_builder.specs.declared.boxes.Split.TheVariants.{Removal, Height}
 use Rattle.milp_builder.proofs.BoxLaws.{points_are_plans}
 use Rattle.branch_bound.specs.Optima.{AsksFor, AsksForSplit}
+use Rattle.branch_bound.specs.inside.Splitting.{IsInnerBreakpoint}
+use Rattle.branch_bound.specs.inside.Solving.{IsAsked}
 
 -- the bounds of an opened block by two tests
 abbrev chosen : Bool → Bool → ℤ × ℤ
@@ -96,6 +97,24 @@ module _ (road : Road) (a : IsAccepted road) (box : BoxRange) (fits : IsBoxOf ro
   asked_of : (split : Split) → AsksFor road den point split → (found : Split) × (IsSplitOf road box found × AsksFor road den point found)
   asked_of (Removal k t) h = (Removal k t, (part_splits k t h, h))
   asked_of (Height i at) h = let s = volume_splits i h in (Height i s.0, (s.1, h))
+
+  -- a removal in part is a split that is asked for and can be made
+  pub removal_asked : (k t : ℕ) → IsPartRemoval road den point k t → IsAsked road box den point (Removal k t)
+  removal_asked k t h = record { splits = part_splits k t h; asks = h }
+
+  -- so is another volume at a breakpoint strictly inside the section's range
+  pub height_asked : (i : ℕ) (at : ℤ) → IsOtherVolume road den point i → IsInnerBreakpoint (section road i) (height_range box.heights i) at
+      → IsAsked road box den point (Height i at)
+  height_asked i at h b = record {
+    splits = record { number = h.number; breakpoint = b.breakpoint; above = b.above; below = b.below };
+    asks = h;
+  }
+
+  -- and such a breakpoint there is
+  pub inside_of : (i : ℕ) → IsOtherVolume road den point i → HasBreakpointInside (section road i) (height_range box.heights i)
+  inside_of i h =
+      ⊎_elim (λ exact. absurd (h.not_exact exact)) (λ b. b)
+      ((points_are_plans road a).volumes box den point fits positive is_point i h.number)
 
   -- a point that asks for a split asks for one that can be made
   pub asked_splits : AsksForSplit road den point → (split : Split) × (IsSplitOf road box split × AsksFor road den point split)

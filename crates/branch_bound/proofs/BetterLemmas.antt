@@ -1,8 +1,7 @@
 -- A better plan keeps all that was good.
-use Rattle.std.proofs.Common.{◌≡◌, ◌⊎◌, ℕ, Option, Some, None, List, refl, sym, ap, subst, arith, inl, inr, ⊎_elim}
-use Rattle.std.specs.Prelude.{ℤ, pos, ◌*ℤ◌, ◌≤ℤ◌, ◌<ℤ◌}
+use Rattle.std.proofs.Common.{Option, Some, None, List, arith, inl, inr, ⊎_elim}
+use Rattle.std.specs.Prelude.{ℤ, pos, ◌≤ℤ◌}
 use Rattle.std.proofs.lemmas.Int.{ints}
-use Rattle.algebra.specs.Scale.{greatest_scale}
 use Rattle.numbers.specs.Fractions.{Fraction}
 use Rattle.programs.specs.Programs.{Program}
 use Rattle.programs.specs.Points.{cost_of_point}
@@ -15,10 +14,9 @@ use Rattle.cert_tree.specs.Soundness.{IsAtLeastBound, HasPositiveDen}
 use Rattle.best_first.proofs.KeyLemmas.{at_most_along}
 use Rattle.tableau.specs.Tableaux.{Tableau}
 use Rattle.branch_bound.specs.Stops.{IsPastLimit, IsMultiplierPastLimit, HasPlanWithin, IsStop}
-use Rattle.branch_bound.specs.Noted.{IsShownStop, IsShownSplit}
+use Rattle.branch_bound.specs.Noted.{IsShownSplit}
 use Rattle.branch_bound.specs.inside.Better.{IsNoDearer, IsBetter}
-use Rattle.branch_bound.specs.inside.Grown.{Grown, dead_leaf, whole_leaf, stopped_leaf, waiting_leaf, grown_fork, IsGood, IsProved, proved_key}
-use Rattle.branch_bound.specs.declared.work.Proved.{Proved}
+use Rattle.branch_bound.specs.inside.Grown.{Grown, dead_leaf, whole_leaf, stopped_leaf, waiting_leaf, grown_fork, IsGood}
 use Rattle.branch_bound.specs.declared.notes.NodeNote.{NodeNote}
 use Rattle.branch_bound.specs.declared.notes.NodeNote.TheVariants.{Fractional, Closed, Dead, Pivots, Wide, Limit, Nodes}
 

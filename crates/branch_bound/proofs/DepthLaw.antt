@@ -1,20 +1,18 @@
 -- No leaf of a tree of an accepted road's boxes stands under more than 432 splits: four blocks of four openings, and sixty sections of eight
 -- slabs.
-use Rattle.std.proofs.Common.{◌≡◌, ℕ, zero, suc, ◌+◌, ◌-◌, ◌*◌, ◌≤◌, ◌<◌, max, List, [], ◌∷◌, length, map, get_or, set, Some, arith, sym, ap, subst, refl, ◌∙◌}
-use Rattle.std.specs.Prelude.{ℤ, pos, ◌≤ℤ◌, ◌<ℤ◌}
+use Rattle.std.proofs.Common.{◌≡◌, ℕ, zero, suc, ◌+◌, ◌-◌, ◌*◌, ◌≤◌, ◌<◌, max, List, [], ◌∷◌, length, map, get_or, set, Some, arith, sym, subst, refl, ◌∙◌}
+use Rattle.std.specs.Prelude.{ℤ, pos}
 use Rattle.std.proofs.lemmas.Int.{ints}
 use Rattle.std.proofs.lemmas.List.{get_or-set_same}
-use Rattle.road_types.specs.Numbered.{numbered, IsNumber}
-use Rattle.road_types.specs.Accepted.{IsAccepted}
+use Rattle.road_types.specs.Numbered.{IsNumber}
 use Rattle.road_types.specs.WellFormed.{IsWellFormed}
 use Rattle.road_types.specs.Ranges.{height_range, IsHeightRange, whole_range, whole_opening}
 use Rattle.road_types.specs.Road.{section, section_count, block_count, no_section, no_block}
 use Rattle.road_types.specs.declared.road.Road.{Road}
-use Rattle.road_types.specs.declared.road.Section.{Section}
 use Rattle.road_types.specs.declared.road.Block.{Block}
 use Rattle.road_points.proofs.FormsHold.{tables_of}
 use Rattle.milp_builder.specs.Boxes.{opening_range, IsBoxOf, root_box}
-use Rattle.milp_builder.specs.Parts.{IsSplitOf, SplitsOpenings, SplitsOffsets, first_part, second_part}
+use Rattle.milp_builder.specs.Parts.{IsSplitOf, first_part, second_part}
 use Rattle.milp_builder.specs.declared.boxes.BoxRange.{BoxRange}
 use Rattle.milp_builder.specs.declared.boxes.Split.{Split}
 use Rattle.milp_builder.specs.declared.boxes.Split.TheVariants.{Removal, Height}
@@ -22,8 +20,6 @@ use Rattle.milp_builder.proofs.Cover.{found_parts_cover}
 use Rattle.milp_builder.proofs.RootBox.{root_box_fits}
 use Rattle.cert_tree.specs.Trees.{BoxTree, low, dead, fork}
 use Rattle.cert_tree.specs.Soundness.{SplitsFit}
-use Rattle.branch_bound.specs.Leaves.{slab_count}
-use Rattle.branch_bound.specs.inside.Choices.{slab_choices_in}
 use Rattle.branch_bound.specs.inside.Depths.{depth, sum_from, opening_splits, height_splits, box_splits}
 use Rattle.branch_bound.proofs.LeavesLaw.{entry_before, number_before, whole_slabs}
 use Rattle.branch_bound.proofs.SlabLemmas.{slabs_of_parts, some_slabs}

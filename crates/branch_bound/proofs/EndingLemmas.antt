@@ -1,33 +1,30 @@
 -- The tree at the end proves the least of its leaves' bounds, and that meets the cost of the plan unless a leaf was left open below it.
-use Rattle.std.proofs.Common.{◌≡◌, ◌⊎◌, ℕ, Bool, true, false, cond, Option, Some, None, List, refl, sym, ap, subst, arith, inl, inr, ⊎_elim, ◌∙◌}
+use Rattle.std.proofs.Common.{◌≡◌, ◌⊎◌, ℕ, Bool, true, false, cond, Option, Some, None, List, refl, ap, arith, inl, inr, ⊎_elim}
 use Rattle.std.specs.Prelude.{◌||◌, ℤ, pos, ◌*ℤ◌, ◌≤ℤ◌, ◌<ℤ◌}
 use Rattle.std.proofs.lemmas.Int.{ints}
 use Rattle.algebra.proofs.Products.{mults}
-use Rattle.algebra.proofs.Order.{int_lt_or_le, int_le_of_mul_right, int_mul_le_right, int_le_antisymm}
-use Rattle.numbers.specs.Fractions.{Fraction, IsLowest, HasValue}
+use Rattle.algebra.proofs.Order.{int_lt_or_le, int_le_antisymm}
+use Rattle.numbers.specs.Fractions.{Fraction}
 use Rattle.numbers.proofs.FractionsLemmas.{same_lowest_fraction}
 use Rattle.road_types.specs.Accepted.{IsAccepted}
 use Rattle.road_types.specs.declared.road.Road.{Road}
 use Rattle.plan_rules.specs.declared.plan.Plan.{Plan}
-use Rattle.plan_rules.specs.Costs.{cost_of, Undercuts}
-use Rattle.milp_builder.specs.BoxPrograms.{box_program}
-use Rattle.milp_builder.specs.Boxes.{IsBoxOf, IsInside, root_box}
+use Rattle.plan_rules.specs.Costs.{cost_of}
+use Rattle.milp_builder.specs.Boxes.{root_box}
 use Rattle.milp_builder.specs.Parts.{first_part, second_part}
 use Rattle.milp_builder.specs.declared.boxes.BoxRange.{BoxRange}
-use Rattle.milp_builder.specs.declared.boxes.Split.{Split}
 use Rattle.milp_builder.proofs.RootBox.{root_box_fits, root_box_covers}
 use Rattle.cert_tree.specs.Trees.{BoxTree, low, dead, fork}
-use Rattle.cert_tree.specs.Soundness.{box_value, IsAtLeastBound, IsSoundLow, IsSound, Bounds, has_low, HasPositiveDen}
+use Rattle.cert_tree.specs.Soundness.{box_value, IsAtLeastBound, IsSound, has_low}
 use Rattle.cert_tree.specs.LeastBounds.{IsAtMostLeaves, IsOfSomeLeaf, IsLeastOfLeaves}
 use Rattle.cert_tree.specs.declared.tree.Why.{Why}
 use Rattle.cert_tree.specs.declared.tree.Why.TheVariants.{Nodes as ForNodes}
 use Rattle.cert_tree.proofs.Lift.{sound_bounds}
 use Rattle.best_first.proofs.KeyLemmas.{at_most_along}
 use Rattle.branch_bound.specs.Noted.{Noted, low_with, dead_with, fork_with, tree_of, AreShown}
-use Rattle.branch_bound.specs.Endings.{IsPlanAt, HasPlanAt, IsBelowCost, HasOpenBelow}
+use Rattle.branch_bound.specs.Endings.{HasPlanAt, IsBelowCost, HasOpenBelow}
 use Rattle.branch_bound.specs.inside.Grown.{Grown, dead_leaf, whole_leaf, stopped_leaf, waiting_leaf, grown_fork, IsGood, IsProved, nodes_note, reaches, cause_of, noted_of}
 use Rattle.branch_bound.specs.declared.work.Proved.{Proved}
-use Rattle.branch_bound.specs.declared.work.Waiting.{Waiting}
 use Rattle.branch_bound.specs.declared.notes.NodeNote.{NodeNote}
 use Rattle.branch_bound.specs.declared.notes.NodeNote.TheVariants.{Fractional, Closed, Dead, Pivots, Wide, Limit, Nodes}
 

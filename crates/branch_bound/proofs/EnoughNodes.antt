@@ -1,21 +1,20 @@
 -- Where the nodes suffice for as many leaves as the road can have, and no simplex stopped, no leaf is left open.
-use Rattle.std.proofs.Common.{◌≡◌, ◌⊎◌, ℕ, ◌+◌, ◌*◌, ◌≤◌, Option, Some, None, List, [], refl, sym, ap, subst, arith, inl, inr, ⊎_elim}
-use Rattle.std.specs.Prelude.{ℤ, pos, ◌+ℤ◌, ◌≤ℤ◌, ◌<ℤ◌}
+use Rattle.std.proofs.Common.{◌≡◌, ℕ, ◌+◌, ◌*◌, Option, Some, None, List, [], refl, arith, ⊎_elim}
+use Rattle.std.specs.Prelude.{ℤ, pos, ◌<ℤ◌}
 use Rattle.std.proofs.lemmas.Int.{ints}
 use Rattle.numbers.specs.Fractions.{Fraction}
 use Rattle.road_types.specs.Accepted.{IsAccepted}
 use Rattle.road_types.specs.declared.road.Road.{Road}
 use Rattle.milp_builder.specs.Boxes.{IsBoxOf, root_box}
 use Rattle.milp_builder.specs.BoxPrograms.{box_program}
-use Rattle.milp_builder.specs.Parts.{IsSplitOf, first_part, second_part}
+use Rattle.milp_builder.specs.Parts.{first_part, second_part}
 use Rattle.milp_builder.specs.declared.boxes.BoxRange.{BoxRange}
-use Rattle.milp_builder.specs.declared.boxes.Split.{Split}
 use Rattle.milp_builder.proofs.Cover.{found_parts_cover}
 use Rattle.milp_builder.proofs.RootBox.{root_box_fits}
 use Rattle.cert_tree.specs.Trees.{BoxTree, low, dead, fork, node_count}
 use Rattle.cert_tree.specs.Soundness.{SplitsFit, box_value, IsSound}
 use Rattle.cert_tree.specs.declared.tree.Why.{Why}
-use Rattle.branch_bound.specs.Leaves.{leaf_count, most_leaves}
+use Rattle.branch_bound.specs.Leaves.{leaf_count}
 use Rattle.branch_bound.specs.Noted.{Noted, low_with, dead_with, fork_with, tree_of, IsShownLow, AreShown}
 use Rattle.branch_bound.specs.Endings.{HasOpenBelow, IsNoStop, HasNoStops, HasNodesForAll}
 use Rattle.branch_bound.specs.declared.notes.NodeNote.{NodeNote}

@@ -1,22 +1,19 @@
 -- One waiting leaf split into two leaves: the tree stays good, its keys are split once, and it has two more nodes.
-use Rattle.std.proofs.Common.{◌≡◌, ◌⊎◌, ℕ, zero, suc, ◌+◌, ◌-◌, ◌≤◌, ◌<◌, Bool, true, false, cond, nat_lt, Option, Some, None, List, [], ◌∷◌, ◌++◌, length, length-append, get_or, refl, sym, ap, subst, arith, inl, inr, ⊎_elim, ◌∙◌}
-use Rattle.std.specs.Prelude.{ℤ, pos, ◌≤ℤ◌, if◌then◌else◌}
+use Rattle.std.proofs.Common.{◌≡◌, ℕ, ◌+◌, ◌-◌, ◌≤◌, ◌<◌, Bool, true, false, cond, nat_lt, Option, Some, [], ◌∷◌, ◌++◌, length, length-append, refl, ap, subst, arith, inl, inr, ⊎_elim, ◌∙◌}
+use Rattle.std.specs.Prelude.{ℤ, pos}
 use Rattle.std.proofs.lemmas.Bool.Decides.{nat_tests}
 use Rattle.std.proofs.lemmas.Bool.{cases_lt}
 use Rattle.std.proofs.lemmas.List.{get_or_append_left, get_or-append-add}
 use Rattle.numbers.specs.Fractions.{Fraction}
 use Rattle.road_types.specs.declared.road.Road.{Road}
-use Rattle.milp_builder.specs.BoxPrograms.{box_program}
 use Rattle.milp_builder.specs.Parts.{first_part, second_part}
 use Rattle.milp_builder.specs.declared.boxes.BoxRange.{BoxRange}
-use Rattle.milp_builder.specs.declared.boxes.Split.{Split}
 use Rattle.best_first.specs.Keys.{IsAtMost, key_at, IsFirstLeast}
 use Rattle.best_first.specs.KeyTrees.{KeyTree, ended, open_leaf, parted}
 use Rattle.best_first.specs.inside.Covers.{IsOrdered, IsAtMostOpen, IsLeaf, IsSplitOnce, open_keys}
 use Rattle.best_first.proofs.OrderLemmas.{ordered_split}
-use Rattle.branch_bound.specs.inside.Grown.{Grown, dead_leaf, whole_leaf, stopped_leaf, waiting_leaf, grown_fork, IsGood, IsWaiting, proved_key, keys_of, IsGrownLeaf, node_total, fractional_note, waiting_count, waiting_at, parted_at}
+use Rattle.branch_bound.specs.inside.Grown.{Grown, dead_leaf, whole_leaf, stopped_leaf, waiting_leaf, grown_fork, IsGood, proved_key, keys_of, IsGrownLeaf, node_total, waiting_count, waiting_at, parted_at}
 use Rattle.branch_bound.specs.declared.work.Waiting.{Waiting}
-use Rattle.branch_bound.specs.declared.notes.NodeNote.{NodeNote}
 
 leaf_keys : (leaf : Grown) → IsGrownLeaf leaf → IsLeaf (keys_of leaf)
 leaf_keys (dead_leaf mults) h = tt

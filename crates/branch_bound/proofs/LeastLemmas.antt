@@ -1,14 +1,13 @@
 -- The least key of the leaves that aren't dead is the least bound of the leaves.
-use Rattle.std.proofs.Common.{◌≡◌, ◌⊎◌, ℕ, ◌+◌, ◌-◌, ◌≤◌, ◌<◌, Bool, true, false, cond, Option, Some, None, List, [], ◌∷◌, ◌++◌, length, length-append, get_or, MatchOption, refl, sym, ap, subst, arith, inl, inr, ⊎_elim, ◌∙◌}
+use Rattle.std.proofs.Common.{◌≡◌, ℕ, ◌+◌, ◌-◌, ◌≤◌, ◌<◌, Bool, false, Option, Some, None, List, [], ◌∷◌, ◌++◌, length, length-append, get_or, MatchOption, refl, sym, ap, subst, arith, inl, inr, ⊎_elim, ◌∙◌}
 use Rattle.std.specs.Prelude.{◌||◌, ℤ, pos, ◌*ℤ◌, ◌≤ℤ◌}
 use Rattle.numbers.specs.Fractions.{Fraction, IsLowest, HasValue}
 use Rattle.road_types.specs.declared.road.Road.{Road}
 use Rattle.milp_builder.specs.Parts.{first_part, second_part}
 use Rattle.milp_builder.specs.declared.boxes.BoxRange.{BoxRange}
-use Rattle.cert_tree.specs.Trees.{BoxTree, low, dead, fork}
 use Rattle.cert_tree.specs.Soundness.{box_value, has_low}
 use Rattle.cert_tree.specs.LeastBounds.{IsAtMostLeaves, IsOfSomeLeaf, IsLeastOfLeaves}
-use Rattle.branch_bound.specs.Noted.{Noted, low_with, tree_of}
+use Rattle.branch_bound.specs.Noted.{low_with, tree_of}
 use Rattle.branch_bound.specs.inside.Grown.{Grown, dead_leaf, whole_leaf, stopped_leaf, waiting_leaf, grown_fork, IsGood, IsProved, proved_key, nodes_note, reaches, cause_of, low_keys, noted_of, AreKeys}
 use Rattle.branch_bound.specs.inside.Least.{IsAtMostLow, IsOfLow, IsLeastKey, IsLeastFraction}
 use Rattle.branch_bound.specs.declared.work.Proved.{Proved}

@@ -1,6 +1,6 @@
 -- A tree has no more leaves than its box has choices, and the root box has no more choices than the road.
-use Rattle.std.proofs.Common.{◌≡◌, ℕ, zero, suc, ◌+◌, ◌-◌, ◌*◌, ◌^◌, ◌≤◌, ◌<◌, List, [], ◌∷◌, length, map, get_or, set, Some, arith, sym, ap, subst, refl, ◌∙◌}
-use Rattle.std.specs.Prelude.{ℤ, pos, ◌≤ℤ◌, ◌<ℤ◌}
+use Rattle.std.proofs.Common.{◌≡◌, ℕ, zero, suc, ◌+◌, ◌-◌, ◌^◌, ◌≤◌, ◌<◌, List, [], ◌∷◌, length, map, get_or, set, Some, arith, sym, ap, subst, refl, ◌∙◌}
+use Rattle.std.specs.Prelude.{ℤ, pos}
 use Rattle.std.proofs.lemmas.Int.{ints}
 use Rattle.std.proofs.Math.Nat.{mul-le-mul_left, mul-le-mul_right}
 use native.Mathlib.Numerals.{unary_clauses}
@@ -8,14 +8,14 @@ use Rattle.std.proofs.Common.{mul_comm}
 use Rattle.road_types.specs.Numbered.{numbered, IsNumber}
 use Rattle.road_types.specs.Accepted.{IsAccepted}
 use Rattle.road_types.specs.WellFormed.{IsWellFormed}
-use Rattle.road_types.specs.Ranges.{height_range, whole_range, whole_ranges, whole_opening, whole_openings}
-use Rattle.road_types.specs.Road.{section, section_count, block_count, no_section}
+use Rattle.road_types.specs.Ranges.{height_range, whole_range, whole_opening}
+use Rattle.road_types.specs.Road.{section, section_count, no_section}
 use Rattle.road_types.specs.declared.road.Road.{Road}
 use Rattle.road_types.specs.declared.road.Section.{Section}
 use Rattle.road_types.specs.declared.road.Block.{Block}
 use Rattle.road_points.proofs.FormsHold.{tables_of}
 use Rattle.milp_builder.specs.Boxes.{opening_range, IsBoxOf, root_box}
-use Rattle.milp_builder.specs.Parts.{IsSplitOf, SplitsOpenings, SplitsOffsets, first_part, second_part, with_opening_range, with_height_range}
+use Rattle.milp_builder.specs.Parts.{IsSplitOf, SplitsOpenings, SplitsOffsets, first_part, second_part}
 use Rattle.milp_builder.specs.declared.boxes.BoxRange.{BoxRange}
 use Rattle.milp_builder.specs.declared.boxes.Split.{Split}
 use Rattle.milp_builder.specs.declared.boxes.Split.TheVariants.{Removal, Height}

@@ -1,28 +1,27 @@
 -- How large an admissible plan over a denominator within the limit is: it fits, and its cost is at most 2^86.
-use Rattle.std.proofs.Common.{◌≡◌, ◌⊎◌, ℕ, ◌+◌, ◌-◌, ◌*◌, ◌≤◌, ◌<◌, ◌^◌, max, List, [], length, refl, sym, ap, subst, arith, inl, inr, ⊎_elim, ◌∙◌}
-use Rattle.std.specs.Prelude.{ℤ, pos, neg_ℤ, ◌*ℤ◌, ◌≤ℤ◌, ◌<ℤ◌, unsigned_abs}
+use Rattle.std.proofs.Common.{◌≡◌, ℕ, ◌+◌, ◌-◌, ◌*◌, ◌≤◌, ◌^◌, max, List, sym, subst, arith, ⊎_elim}
+use Rattle.std.specs.Prelude.{ℤ, pos, neg_ℤ, ◌*ℤ◌, ◌≤ℤ◌, unsigned_abs}
 use Rattle.std.proofs.lemmas.Int.{ints}
 use Rattle.std.proofs.lemmas.Nat.{mul-le}
 use Rattle.std.proofs.Math.Nat.{mul_assoc}
 use Rattle.algebra.specs.Scale.{IsScale}
-use Rattle.algebra.specs.Sums.{sum_to}
 use Rattle.algebra.specs.Totals.{total_to}
 use Rattle.algebra.specs.Numbered.{IsNumber}
-use Rattle.algebra.proofs.Order.{int_mul_le_mul, int_mul_le_right}
-use Rattle.algebra.proofs.Magnitudes.{unsigned_abs_le, unsigned_abs_mul, unsigned_abs_mul_le, le_unsigned_abs, neg_unsigned_abs_le}
+use Rattle.algebra.proofs.Order.{int_mul_le_right}
+use Rattle.algebra.proofs.Magnitudes.{unsigned_abs_le, unsigned_abs_mul_le, le_unsigned_abs, neg_unsigned_abs_le}
 use Rattle.algebra.proofs.TotalsLemmas.{total_to_le, total_to_mul_right, unsigned_abs_sum_to_total}
 use Rattle.programs.specs.Programs.{Program, column_count, bounds_at, cost_at}
 use Rattle.programs.specs.Points.{IsPoint, IsInBoundsAt, cost_share, cost_of_point, numerator_at}
-use Rattle.programs.specs.Weights.{reach, column_weight, load_of_rows, load_of_rights, weight}
+use Rattle.programs.specs.Weights.{reach, column_weight, load_of_rows}
 use Rattle.programs.specs.Limits.{IsWithinLimits}
-use Rattle.road_types.specs.WellFormed.{IsWellFormed, IsCap, IsBetween}
+use Rattle.road_types.specs.WellFormed.{IsWellFormed, IsCap}
 use Rattle.road_types.specs.Road.{section, hop, access, section_count, segment_count, access_count}
 use Rattle.road_types.specs.declared.road.Road.{Road}
 use Rattle.plan_rules.specs.declared.plan.Plan.{Plan}
 use Rattle.plan_rules.specs.Plans.{IsTableOf, amount, piece_of, no_piece}
 use Rattle.plan_rules.specs.Fits.{Fits, IsModerate, IsModeratePiece}
 use Rattle.plan_rules.specs.Rules.{IsWithin, IsAdmissible}
-use Rattle.road_points.proofs.PlanFacts.{PlanFacts, facts_of_admissible}
+use Rattle.road_points.proofs.PlanFacts.{facts_of_admissible}
 use Rattle.road_points.proofs.PointShows.{is_number_or_not, both_or_not, amount_none, numbered_none}
 
 -- ---- an admissible plan fits

@@ -1,6 +1,6 @@
 -- A search that is finished answers what it is to answer.
-use Rattle.std.proofs.Common.{◌≡◌, ◌⊎◌, ℕ, ◌+◌, Option, Some, None, List, refl, sym, ap, subst, arith, inl, inr, ⊎_elim, ◌∙◌}
-use Rattle.std.specs.Prelude.{ℤ, pos, ◌≤ℤ◌}
+use Rattle.std.proofs.Common.{◌≡◌, ℕ, Option, List, sym, ap, ⊎_elim, ◌∙◌}
+use Rattle.std.specs.Prelude.{pos, ◌≤ℤ◌}
 use Rattle.numbers.specs.Fractions.{Fraction}
 use Rattle.road_types.specs.Accepted.{IsAccepted}
 use Rattle.road_types.specs.declared.road.Road.{Road}
@@ -10,9 +10,9 @@ use Rattle.cert_tree.specs.Trees.{BoxTree, node_count}
 use Rattle.best_first.specs.inside.Covers.{IsOrdered}
 use Rattle.best_first.proofs.OrderLemmas.{ordered_ended}
 use Rattle.best_first.proofs.PathLemmas.{best_first_of}
-use Rattle.branch_bound.specs.Noted.{Noted, tree_of, notes_of, AreShown, HaveKeys}
+use Rattle.branch_bound.specs.Noted.{Noted, tree_of, notes_of, AreShown}
 use Rattle.cert_tree.specs.LeastBounds.{IsLeastOfLeaves}
-use Rattle.branch_bound.specs.Endings.{HasPlanAt, HasOpenBelow, HasNoStops, HasNodesForAll}
+use Rattle.branch_bound.specs.Endings.{HasPlanAt}
 use Rattle.branch_bound.specs.Searched.{IsSearched}
 use Rattle.branch_bound.specs.inside.Grown.{Grown, IsGood, keys_of, node_total, noted_of, IsFinished}
 use Rattle.branch_bound.specs.declared.notes.NodeNote.{NodeNote}

@@ -1,6 +1,6 @@
 -- At the end each open leaf is closed where its bound reaches the cost, and else left open with its note: every note is shown, the keys are
 -- as before but for the leaves that were closed, and no node comes or goes.
-use Rattle.std.proofs.Common.{◌≡◌, ◌⊎◌, ℕ, ◌+◌, Bool, true, false, cond, Option, Some, None, List, refl, sym, ap, subst, arith, inl, inr, ⊎_elim, ◌∙◌}
+use Rattle.std.proofs.Common.{◌≡◌, ℕ, ◌+◌, Bool, true, false, cond, Option, Some, None, refl, subst, arith, inl, inr, ⊎_elim}
 use Rattle.std.specs.Prelude.{ℤ, pos, ◌*ℤ◌, ◌≤ℤ◌, ◌<ℤ◌, int_le}
 use Rattle.std.proofs.lemmas.Int.{ints}
 use Rattle.numbers.specs.Fractions.{Fraction}
@@ -8,19 +8,15 @@ use Rattle.road_types.specs.declared.road.Road.{Road}
 use Rattle.milp_builder.specs.BoxPrograms.{box_program}
 use Rattle.milp_builder.specs.Parts.{first_part, second_part}
 use Rattle.milp_builder.specs.declared.boxes.BoxRange.{BoxRange}
-use Rattle.milp_builder.specs.declared.boxes.Split.{Split}
 use Rattle.cert_tree.specs.Trees.{node_count}
 use Rattle.cert_tree.specs.Soundness.{box_value, IsAtLeastBound}
-use Rattle.cert_tree.specs.declared.tree.Why.{Why}
-use Rattle.cert_tree.specs.declared.tree.Why.TheVariants.{Nodes as ForNodes, Pivots as ForPivots, Width as ForWidth}
+use Rattle.cert_tree.specs.declared.tree.Why.TheVariants.{Nodes as ForNodes}
 use Rattle.best_first.specs.Keys.{IsAtMost}
 use Rattle.best_first.specs.KeyTrees.{KeyTree, ended, open_leaf, parted}
 use Rattle.best_first.specs.inside.Covers.{IsEndedInPart}
 use Rattle.best_first.proofs.KeyLemmas.{at_most_itself}
-use Rattle.tableau.specs.Tableaux.{Tableau}
-use Rattle.branch_bound.specs.Optima.{AsksForSplit}
-use Rattle.branch_bound.specs.Noted.{Noted, low_with, dead_with, fork_with, tree_of, IsShownStop, IsShownLow, AreShown, HaveKeys}
-use Rattle.branch_bound.specs.inside.Grown.{Grown, dead_leaf, whole_leaf, stopped_leaf, waiting_leaf, grown_fork, IsGood, IsProved, IsWaiting, proved_key, keys_of, node_total, nodes_note, reaches, cause_of, closed_or, noted_of, AllReach, IsFinished}
+use Rattle.branch_bound.specs.Noted.{Noted, low_with, tree_of, IsShownStop, AreShown, HaveKeys}
+use Rattle.branch_bound.specs.inside.Grown.{Grown, dead_leaf, whole_leaf, stopped_leaf, waiting_leaf, grown_fork, IsGood, IsProved, IsWaiting, proved_key, keys_of, node_total, nodes_note, reaches, cause_of, noted_of, IsFinished}
 use Rattle.branch_bound.specs.declared.work.Proved.{Proved}
 use Rattle.branch_bound.specs.declared.work.Waiting.{Waiting}
 use Rattle.branch_bound.specs.declared.notes.NodeNote.{NodeNote}

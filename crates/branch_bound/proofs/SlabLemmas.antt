@@ -1,14 +1,14 @@
 -- The slabs in a range of offsets: split at an offset inside, some in each range between two breakpoints, and no more than all.
-use Rattle.std.proofs.Common.{◌≡◌, ◌⊎◌, ℕ, zero, suc, ◌+◌, ◌≤◌, ◌<◌, List, [], ◌∷◌, ◌++◌, length, length-append, take, Bool, true, false, cond, arith, ap, sym, subst, ◌∙◌, refl, ⊎_elim}
+use Rattle.std.proofs.Common.{◌≡◌, ℕ, zero, suc, ◌+◌, ◌≤◌, List, [], ◌∷◌, ◌++◌, length, length-append, Bool, true, false, cond, arith, ap, sym, subst, refl, ⊎_elim}
 use Rattle.std.specs.Prelude.{ℤ, pos, neg_ℤ, ◌+ℤ◌, ◌≤ℤ◌, ◌<ℤ◌, int_le, ◌&&◌}
 use Rattle.std.proofs.lemmas.Int.{ints}
 use Rattle.algebra.proofs.Order.{int_lt_or_le}
 use Rattle.road_types.specs.declared.road.Slab.{Slab}
 use Rattle.road_types.specs.declared.road.Section.{Section}
 use Rattle.road_types.specs.Volumes.{thickness_of}
-use Rattle.road_types.specs.Breakpoints.{leading_thickness, IsBreakpoint}
+use Rattle.road_types.specs.Breakpoints.{leading_thickness}
 use Rattle.road_types.specs.Ranges.{IsHeightRange}
-use Rattle.road_types.specs.Lines.{areas_between, slopes_between}
+use Rattle.road_types.specs.Lines.{areas_between}
 use Rattle.road_types.proofs.Acceptance.{both_true, true_both}
 use Rattle.volume_lines.specs.SlabTables.{HasSlabTables}
 use Rattle.volume_lines.proofs.SlabRises.{AreThick}

@@ -1,5 +1,5 @@
 -- How a search ends: with a plan at its cost or without one, and with a leaf that was left open below the cost, or none.
-use Rattle.std.specs.Prelude.{◌≡◌, ◌⊎◌, ℕ, ◌*◌, List, Option, Some, None, ℤ, pos, ◌+ℤ◌, ◌*ℤ◌, ◌≤ℤ◌, ◌<ℤ◌}
+use Rattle.std.specs.Prelude.{◌⊎◌, ◌*◌, Option, Some, None, ℤ, pos, ◌+ℤ◌, ◌*ℤ◌, ◌≤ℤ◌, ◌<ℤ◌}
 use Rattle.numbers.specs.Fractions.{Fraction, IsLowest, HasValue}
 use Rattle.road_types.specs.declared.road.Road.{Road}
 use Rattle.plan_rules.specs.declared.plan.Plan.{Plan}
@@ -8,9 +8,8 @@ use Rattle.plan_rules.specs.Costs.{cost_of}
 use Rattle.milp_builder.specs.Parts.{first_part, second_part}
 use Rattle.milp_builder.specs.declared.boxes.BoxRange.{BoxRange}
 use Rattle.cert_tree.specs.Soundness.{box_value}
-use Rattle.cert_tree.specs.declared.tree.Why.{Why}
 use Rattle.branch_bound.specs.declared.notes.NodeNote.{NodeNote}
-use Rattle.branch_bound.specs.declared.notes.NodeNote.TheVariants.{Fractional, Closed, Dead, Pivots, Wide, Limit, Nodes}
+use Rattle.branch_bound.specs.declared.notes.NodeNote.TheVariants.{Pivots, Wide, Limit}
 use Rattle.branch_bound.specs.Leaves.{most_leaves}
 use Rattle.branch_bound.specs.Noted.{Noted, low_with, dead_with, fork_with}
 

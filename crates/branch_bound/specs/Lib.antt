@@ -5,4 +5,5 @@ pub mod Noted
 pub mod Leaves
 pub mod Endings
 pub mod Searched
+pub mod Found
 pub mod inside

@@ -1,5 +1,9 @@
 pub mod Choices
 pub mod Grown
 pub mod Better
+pub mod Searches
+pub mod Proving
+pub mod Splitting
+pub mod Solving
 pub mod Least
 pub mod Depths

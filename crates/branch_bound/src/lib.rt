@@ -1,12 +1,18 @@
-//! What a search by branch and bound answers, and its laws: notes that show why each node was closed, split or left open, and the tree
-//! while it grows and as it is settled at the end. The search itself, which solves boxes and splits them, isn't
-//! here yet: `specs/Searched` says what it is to answer.
+//! The search: boxes are split best bound first until the bound meets the cost of the best plan or the nodes are spent, and each
+//! node of the tree keeps a note that shows why it was closed, split or left open.
 #![tactic(auto)]
 
+mod best;
+mod finding;
+mod growing;
 mod notes;
+mod proving;
 mod settling;
+mod solving;
+mod splitting;
 mod walks;
 mod work;
 
 pub use best_first::pick;
+pub use finding::{Found, search};
 pub use notes::NodeNote;

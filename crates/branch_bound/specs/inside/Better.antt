@@ -1,5 +1,5 @@
 -- A cost that is no greater than another: a plan was found, or a cheaper one.
-use Rattle.std.specs.Prelude.{Option, Some, None, ℤ, pos, ◌*ℤ◌, ◌≤ℤ◌}
+use Rattle.std.specs.Prelude.{Option, Some, None, ◌*ℤ◌, ◌≤ℤ◌}
 use Rattle.numbers.specs.Fractions.{Fraction}
 use Rattle.cert_tree.specs.Soundness.{HasPositiveDen}
 

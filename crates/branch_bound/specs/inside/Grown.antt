@@ -1,5 +1,5 @@
 -- The tree while it grows, as plain data: what holds of each node, which keys and notes it has, and the tree that it becomes.
-use Rattle.std.specs.Prelude.{◌≡◌, ℕ, zero, suc, ◌+◌, ◌-◌, nat_lt, int_le, Bool, true, false, if◌then◌else◌, cond, List, [], ◌∷◌, ◌++◌, Option, Some, None, ℤ, pos, ◌*ℤ◌, ◌^◌, ◌≤◌, ◌⊎◌, ◌<ℤ◌, unsigned_abs}
+use Rattle.std.specs.Prelude.{◌≡◌, ℕ, ◌+◌, ◌-◌, nat_lt, int_le, Bool, true, false, if◌then◌else◌, List, [], ◌∷◌, ◌++◌, Option, Some, None, ℤ, pos, ◌*ℤ◌, ◌^◌, ◌≤◌, ◌⊎◌, ◌<ℤ◌, unsigned_abs}
 use Rattle.algebra.specs.Scale.{IsScale}
 use Rattle.numbers.specs.Fractions.{Fraction}
 use Rattle.road_types.specs.declared.road.Road.{Road}
@@ -17,7 +17,7 @@ use Rattle.branch_bound.specs.Optima.{exchange_budget, AsksFor}
 use Rattle.branch_bound.specs.NoteKeys.{IsNarrowKey, IsKeyOf}
 use Rattle.branch_bound.specs.Noted.{Noted, low_with, dead_with, fork_with, IsShownStop, IsShownSplit}
 use Rattle.branch_bound.specs.declared.notes.NodeNote.{NodeNote}
-use Rattle.branch_bound.specs.declared.notes.NodeNote.TheVariants.{Fractional, Closed, Dead as DeadNote, Pivots, Wide, Limit, Nodes}
+use Rattle.branch_bound.specs.declared.notes.NodeNote.TheVariants.{Fractional, Closed, Dead as DeadNote, Pivots, Nodes}
 use Rattle.branch_bound.specs.declared.work.Work.{Work}
 use Rattle.branch_bound.specs.declared.work.Work.TheOpen.{Work-F}
 use Rattle.branch_bound.specs.declared.work.Work.TheFolds.{fold-Work}

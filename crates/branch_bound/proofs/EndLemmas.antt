@@ -1,0 +1,202 @@
+-- What the functions that solve a box need, said of a road without a fault: one lemma for each step.
+use Rattle.std.proofs.Common.{◌≡◌, ℕ, ◌-◌, ◌^◌, Option, Some, None, List, length, get_or, refl, sym, ap, subst, inl, inr, ⊎_elim, ◌∙◌}
+use Rattle.std.specs.Prelude.{ℤ, pos, ◌≤ℤ◌, ◌<ℤ◌}
+use Rattle.std.specs.Int.{int_max}
+use Rattle.std.specs.List.{All}
+use Rattle.algebra.specs.Scale.{IsScale, greatest_scale}
+use Rattle.algebra.proofs.Order.{int_lt_or_le}
+use Rattle.algebra.proofs.NumberedLemmas.{numbered_at}
+use Rattle.programs.specs.Programs.{Program, row_count}
+use Rattle.programs.specs.Points.{IsPoint}
+use Rattle.safe_bounds.specs.Values.{IsMultiplier, AreMultipliers, HasRightSigns}
+use Rattle.safe_bounds.specs.Narrowing.{AreNarrow, IsNarrowed}
+use Rattle.road_types.specs.Numbered.{IsNumber}
+use Rattle.road_types.specs.Faults.{road_fault}
+use Rattle.road_types.specs.WellFormed.{IsWellFormed}
+use Rattle.road_types.specs.Ranges.{height_range}
+use Rattle.road_types.specs.Road.{section, section_count}
+use Rattle.road_types.proofs.AcceptedRoad.{IsAccepted-from_fault}
+use Rattle.road_types.specs.declared.road.Road.{Road}
+use Rattle.volume_lines.specs.InnerBreakpoints.{HasBreakpointInside}
+use Rattle.volume_lines.specs.SlabTables.{HasSlabTables}
+use Rattle.road_points.specs.Shown.{HasWholeRemovals}
+use Rattle.road_points.proofs.FormsHold.{tables_of}
+use Rattle.milp_builder.specs.Boxes.{IsBoxOf}
+use Rattle.milp_builder.specs.BoxPrograms.{box_program}
+use Rattle.milp_builder.specs.FoundPlans.{IsPartRemoval, IsOtherVolume}
+use Rattle.milp_builder.specs.inside.SmallPoints.{HasSmallVolumes}
+use Rattle.milp_builder.specs.declared.boxes.BoxRange.{BoxRange}
+use Rattle.milp_builder.specs.declared.boxes.Split.{Split}
+use Rattle.milp_builder.specs.declared.boxes.Split.TheVariants.{Removal, Height}
+use Rattle.milp_builder.proofs.SmallVolumes.{small_volumes}
+use Rattle.tableau.specs.declared.exchange.Exchange.{Exchange}
+use Rattle.tableau.specs.declared.op.Op.{Op}
+use Rattle.simplex.specs.Ends.{IsDead, IsSpent, IsWide, IsOptimum, AreWithin}
+use Rattle.branch_bound.specs.Optima.{exchange_budget}
+use Rattle.branch_bound.specs.inside.Grown.{dead_leaf, stopped_leaf, waiting_leaf, grown_of, IsGood}
+use Rattle.branch_bound.specs.inside.Proving.{IsProvedOn, IsGreatestOf}
+use Rattle.branch_bound.specs.inside.Searches.{cost_at, IsBest, IsSolved}
+use Rattle.branch_bound.specs.inside.Splitting.{IsInnerBreakpoint}
+use Rattle.branch_bound.specs.inside.Solving.{AreProving, IsStoppedLeaf, IsStopWith, AreDeadMults, IsEmptyLeaf, IsOptimumOf, IsAsked}
+use Rattle.branch_bound.specs.declared.notes.NodeNote.{NodeNote}
+use Rattle.branch_bound.specs.declared.notes.NodeNote.TheVariants.{Pivots, Wide, Limit}
+use Rattle.branch_bound.specs.declared.best.Best.{Best}
+use Rattle.branch_bound.specs.declared.best.Solved.{Solved}
+use Rattle.branch_bound.specs.declared.work.Proved.{Proved}
+use Rattle.branch_bound.specs.declared.work.Optimum.{Optimum}
+use Rattle.branch_bound.specs.declared.work.Waiting.{Waiting}
+use Rattle.branch_bound.specs.declared.work.Work.{Work}
+use Rattle.branch_bound.proofs.AskedSplits.{removal_asked, height_asked, inside_of}
+use Rattle.branch_bound.proofs.EmptyLemmas.{dead_leaf_is, limit_stop}
+use Rattle.branch_bound.proofs.SolvingLemmas.{own_proving, ray_proving, proved_is, leaf_from, stop_good, empty_good, solved_same, spent_stop, wide_stop}
+
+-- ---- splits
+
+pub well_formed_of : (road : Road) → road_fault road ≡ None → IsWellFormed road
+well_formed_of road h = (IsAccepted-from_fault road h).well_formed
+
+pub small_of : (road : Road) (box : BoxRange) (den : ℤ) (point : List ℤ) → road_fault road ≡ None → IsBoxOf road box → IsScale den
+    → IsPoint (box_program road box) den point → HasSmallVolumes road point
+small_of road box den point h fits d p = small_volumes road (well_formed_of road h) box fits den d point p
+
+pub removal_is_asked : (road : Road) (box : BoxRange) (den : ℤ) (point : List ℤ) (k t : ℕ) → road_fault road ≡ None → IsBoxOf road box → pos 1 ≤ℤ den
+    → IsPoint (box_program road box) den point → IsPartRemoval road den point k t → IsAsked road box den point (Removal k t)
+removal_is_asked road box den point k t h fits d p r = removal_asked road (IsAccepted-from_fault road h) box fits den d point p k t r
+
+pub height_is_asked : (road : Road) (box : BoxRange) (den : ℤ) (point : List ℤ) (i : ℕ) (at : ℤ) → road_fault road ≡ None → IsBoxOf road box → IsScale den
+    → IsPoint (box_program road box) den point → IsOtherVolume road den point i
+    → IsInnerBreakpoint (section road i) (height_range box.heights i) at → IsAsked road box den point (Height i at)
+height_is_asked road box den point i at h fits d p v b = height_asked road (IsAccepted-from_fault road h) box fits den d.from_one point p i at v b
+
+pub tables_at : (road : Road) (den : ℤ) (point : List ℤ) (i : ℕ) → road_fault road ≡ None → IsOtherVolume road den point i → HasSlabTables (section road i)
+tables_at road den point i h v = tables_of road (well_formed_of road h) i v.number
+
+pub some_inside : (road : Road) (box : BoxRange) (den : ℤ) (point : List ℤ) (i : ℕ) → road_fault road ≡ None → IsBoxOf road box → pos 1 ≤ℤ den
+    → IsPoint (box_program road box) den point → IsOtherVolume road den point i
+    → (HasBreakpointInside (section road i) (height_range box.heights i) → ⊥) → ⊥
+some_inside road box den point i h fits d p v none = none (inside_of road (IsAccepted-from_fault road h) box fits den d point p i v)
+
+pub inside_at : (road : Road) (box : BoxRange) (den : ℤ) (point : List ℤ) (i : ℕ) → road_fault road ≡ None → IsBoxOf road box → IsScale den
+    → IsPoint (box_program road box) den point → IsOtherVolume road den point i → HasBreakpointInside (section road i) (height_range box.heights i)
+inside_at road box den point i h fits d p v = inside_of road (IsAccepted-from_fault road h) box fits den d.from_one point p i v
+
+pub section_number : (road : Road) (den : ℤ) (point : List ℤ) (i : ℕ) → IsOtherVolume road den point i → IsNumber i (section_count road)
+section_number road den point i v = v.number
+
+pub height_number : (road : Road) (box : BoxRange) (den : ℤ) (point : List ℤ) (i : ℕ) → IsBoxOf road box → IsOtherVolume road den point i → IsNumber i (length box.heights)
+height_number road box den point i fits v = subst (IsNumber i) (sym fits.heights_count) v.number
+
+pub range_at : (heights : List (ℤ × ℤ)) (i : ℕ) → IsNumber i (length heights) → get_or heights (i - 1) (pos 0, pos 0) ≡ height_range heights i
+range_at heights i n = sym (numbered_at (pos 0, pos 0) heights i n.from_one)
+
+pub den_scale : (den : ℤ) → pos 1 ≤ℤ den → (pos greatest_scale <ℤ den → ⊥) → IsScale den
+den_scale den one h = record {
+  from_one = one;
+  at_most = ⊎_elim (λ l. absurd (h l)) (λ (l : den ≤ℤ pos greatest_scale). l) (int_lt_or_le (pos greatest_scale) den);
+}
+
+-- ---- an empty box
+
+module _ (program : Program) (budget : ℕ) (trail : List Exchange) (numbers : List ℤ) (scale : ℤ) (mults : List ℤ) where
+  pub dead_rows : IsDead program budget trail numbers scale mults → length numbers ≡ row_count program
+  dead_rows h = ray_proving program budget trail h.tableau h.row h.broken numbers h.reached h.own_ray
+
+  pub dead_multipliers : (narrow : List ℤ) → IsDead program budget trail numbers scale mults → length narrow ≡ length numbers → All IsMultiplier narrow
+      → AreMultipliers program narrow
+  dead_multipliers narrow h c all = record { each_row = c ∙ dead_rows h; within = all }
+
+  pub dead_proving : IsDead program budget trail numbers scale mults → AreWithin (2 ^ 127 - 1) mults → AreProving program scale mults
+  dead_proving h within = own_proving program budget trail h.tableau scale mults h.reached h.own within
+
+module _ (road : Road) (program : Program) (trail : List Exchange) (numbers : List ℤ) (scale : ℤ) (mults : List ℤ)
+    (dead : IsDead program (exchange_budget road) trail numbers scale mults) where
+  pub empty_dead : (narrow : List ℤ) (pairs : List (ℕ × ℤ)) (leaf : Work) → length narrow ≡ length numbers
+      → ((p : Program) → HasRightSigns p numbers → HasRightSigns p narrow) → AreDeadMults program narrow (Some pairs) → grown_of leaf ≡ dead_leaf pairs
+      → IsEmptyLeaf road program trail scale mults leaf
+  empty_dead narrow pairs leaf c signs d e =
+      inl (dead_leaf_is program narrow pairs leaf (c ∙ dead_rows program (exchange_budget road) trail numbers scale mults dead) (signs program dead.ray_signs) d e)
+
+  pub empty_limit : (greatest top narrow_scale : ℤ) (narrow : List ℤ) (leaf : Work) → IsGreatestOf numbers (length numbers) greatest → top ≡ int_max greatest (pos 1)
+      → IsNarrowed top numbers narrow_scale narrow → (AreNarrow top numbers → (narrow_scale ≡ top) × (narrow ≡ numbers))
+      → AreDeadMults program narrow None → IsStoppedLeaf program scale mults (Limit trail greatest) leaf → IsEmptyLeaf road program trail scale mults leaf
+  empty_limit greatest top narrow_scale narrow leaf g e n unchanged nothing s =
+      inr (record {
+        number = greatest;
+        leaf_is = s;
+        stop = limit_stop road program trail numbers scale mults greatest narrow_scale narrow dead g
+            (subst (λ (z : ℤ). IsNarrowed z numbers narrow_scale narrow) e n)
+            (subst (λ (z : ℤ). AreNarrow z numbers → (narrow_scale ≡ z) × (narrow ≡ numbers)) e unchanged) nothing;
+      })
+
+-- ---- a box whose simplex stopped
+
+module _ (program : Program) (budget : ℕ) (trail : List Exchange) (scale : ℤ) (mults : List ℤ) (within : AreWithin (2 ^ 127 - 1) mults) where
+  pub spent_proving : IsSpent program budget trail scale mults → AreProving program scale mults
+  spent_proving h = own_proving program budget trail h.tableau scale mults h.reached h.own within
+
+  pub wide_proving : (op : Op) → IsWide (2 ^ 127 - 1) program budget trail op scale mults → AreProving program scale mults
+  wide_proving op h = own_proving program budget trail h.past.tableau scale mults h.past.reached h.own within
+
+  pub optimum_proving : (den : ℤ) (point : List ℤ) → IsOptimum program budget trail den point scale mults → AreProving program scale mults
+  optimum_proving den point h = own_proving program budget trail h.tableau scale mults h.reached h.own within
+
+module _ (road : Road) (best : Option Best) (box : BoxRange) (program : Program) (solved : Solved) (b : IsBest road best) (p : program ≡ box_program road box)
+    (same : solved.best ≡ best) where
+  stopped_solved : (note : NodeNote) (scale : ℤ) (mults : List ℤ) → IsStoppedLeaf program scale mults note solved.leaf
+      → IsStopWith road (cost_at best) program note scale mults → IsSolved road best box solved
+  stopped_solved note scale mults s stop =
+      let proved_on = subst (λ (q : Program). IsProvedOn q scale mults s.proved) p s.proved_on in
+      let here = subst (λ (q : Program). IsStopWith road (cost_at best) q note scale mults) p stop in
+      solved_same road best box solved b same (stop_good road (cost_at best) box scale mults note s.proved solved.leaf proved_on s.is_stopped here)
+
+  pub spent_solved : (trail : List Exchange) (scale : ℤ) (mults : List ℤ) → IsStoppedLeaf program scale mults (Pivots trail) solved.leaf
+      → IsSpent program (exchange_budget road) trail scale mults → IsSolved road best box solved
+  spent_solved trail scale mults s h = stopped_solved (Pivots trail) scale mults s (spent_stop road (cost_at best) program trail scale mults h)
+
+  pub wide_solved : (trail : List Exchange) (op : Op) (scale : ℤ) (mults : List ℤ) → IsStoppedLeaf program scale mults (Wide trail op) solved.leaf
+      → IsWide (2 ^ 127 - 1) program (exchange_budget road) trail op scale mults → IsSolved road best box solved
+  wide_solved trail op scale mults s h = stopped_solved (Wide trail op) scale mults s (wide_stop road (cost_at best) program trail op scale mults h)
+
+  pub empty_solved : (trail : List Exchange) (scale : ℤ) (mults : List ℤ) → IsEmptyLeaf road program trail scale mults solved.leaf → IsSolved road best box solved
+  empty_solved trail scale mults h =
+      solved_same road best box solved b same
+      (empty_good road (cost_at best) box trail scale mults solved.leaf (subst (λ (q : Program). IsEmptyLeaf road q trail scale mults solved.leaf) p h))
+
+-- ---- a box with an optimum
+
+module _ (road : Road) (best : Option Best) (box : BoxRange) (optimum : Optimum) (proved : Proved) (solved : Solved) (b : IsBest road best)
+    (o : IsOptimumOf road box optimum proved) (same : solved.best ≡ best) where
+  pub waiting_solved : (split : Split) (leaf : Waiting) → IsAsked road box optimum.den optimum.point split
+      → leaf ≡ record { range = box; split = split; optimum = optimum; proved = proved } → grown_of solved.leaf ≡ waiting_leaf leaf → IsSolved road best box solved
+  waiting_solved split leaf asked l e =
+      let waiting : Waiting = record { range = box; split = split; optimum = optimum; proved = proved } in
+      let good : IsGood road (cost_at best) (waiting_leaf waiting) box = record {
+        range = refl;
+        splits = asked.splits;
+        asks = asked.asks;
+        optimum = o.own_optimum;
+        narrow_key = o.proved_on.narrow_key;
+        own_bound = proved_is road box optimum.scale optimum.mults proved o.proved_on;
+      } in
+      solved_same road best box solved b same
+      (leaf_from road (cost_at best) box solved.leaf (waiting_leaf waiting) (e ∙ ap (λ (w : Waiting). waiting_leaf w) l) tt good)
+
+  pub denominator_solved : HasWholeRemovals road optimum.den optimum.point → pos greatest_scale <ℤ optimum.den
+      → grown_of solved.leaf ≡ stopped_leaf proved (Limit optimum.trail optimum.den) → IsSolved road best box solved
+  denominator_solved whole past e =
+      let t = o.own_optimum.tableau in
+      let own = o.own_optimum.own in
+      solved_same road best box solved b same
+      (stop_good road (cost_at best) box optimum.scale optimum.mults (Limit optimum.trail optimum.den) proved solved.leaf o.proved_on e (
+        t,
+        (
+          (
+            o.own_optimum.reached,
+            record {
+              past = past;
+              which = inr (inl (record { optimal = o.own_optimum.optimal; point = optimum.point; own_point = o.own_optimum.own_point; whole = whole }));
+            },
+          ),
+          (own.own_scale, own.own_mults),
+        ),
+      ))

@@ -1,0 +1,479 @@
+// The linear program of a box, and the leaf that its end gives.
+ghost use Rattle.std.specs.Prelude.{◌≡◌, ◌<◌, ◌≤◌, ◌^◌, ◌-◌, ◌≤ℤ◌, None, IfOk, MatchOption, length, pos, unsigned_abs};
+ghost use Rattle.std.specs.Int.{int_max};
+ghost use Rattle.std.specs.List.{All};
+ghost use Rattle.algebra.specs.Scale.{IsScale};
+ghost use Rattle.numbers.specs.Fractions.{IsLowest, HasValue};
+ghost use Rattle.programs.specs.Points.{IsPoint};
+ghost use Rattle.safe_bounds.specs.Values.{AreMultipliers};
+ghost use Rattle.road_types.specs.Faults.{road_fault};
+ghost use Rattle.road_points.specs.Shown.{HasWholeRemovals, HasExactVolumes};
+ghost use Rattle.plan_rules.specs.Rules.{IsAdmissible};
+ghost use Rattle.plan_rules.specs.Costs.{cost_of};
+ghost use Rattle.road_types.specs.Numbered.{IsNumber};
+ghost use Rattle.road_types.specs.Ranges.{height_range};
+ghost use Rattle.road_types.specs.Road.{section, section_count};
+ghost use Rattle.volume_lines.specs.InnerBreakpoints.{HasBreakpointInside};
+ghost use Rattle.volume_lines.specs.SlabTables.{HasSlabTables};
+ghost use Rattle.milp_builder.specs.Boxes.{IsBoxOf};
+ghost use Rattle.branch_bound.specs.inside.Splitting.{IsInnerBreakpoint};
+ghost use Rattle.milp_builder.specs.BoxPrograms.{box_program};
+ghost use Rattle.best_first.specs.Keys.{IsKey};
+ghost use Rattle.simplex.specs.Ends.{IsEnd, IsDead, IsOptimum, HasNumbersWithin, AreWithin};
+ghost use Rattle.branch_bound.specs.Optima.{exchange_budget};
+ghost use Rattle.branch_bound.specs.inside.Grown.{grown_of, dead_leaf, whole_leaf, waiting_leaf, stopped_leaf, IsCostKey};
+ghost use Rattle.branch_bound.specs.inside.Searches.{cost_at, IsBest, IsSolved};
+ghost use Rattle.branch_bound.specs.inside.Solving.{AreProving, IsStoppedLeaf, IsEmptyLeaf, AreDeadMults, IsOptimumOf, IsAsked, IsWholeLeaf, IsCheaper, IsPriced};
+ghost use Rattle.branch_bound.specs.declared.notes.NodeNote.TheVariants.{Limit};
+
+use crate::best::{Best, Solved};
+use crate::notes::NodeNote;
+use crate::proving::{greatest_magnitude, narrowed, past_limit, prove, value_on, written};
+use crate::splitting::{inner_breakpoint, part_removal, worst_section};
+use crate::work::{Optimum, Proved, Waiting, Work};
+use algebra::GREATEST_SCALE;
+use best_first::is_at_most;
+use milp_builder::{BoxRange, Split, build, plan_of};
+use numbers::{Frac, W64, W128};
+use plan_rules::{Plan, Verdict, judge};
+use programs::Milp;
+use road_types::{Listed, Road};
+use simplex::{Lp, LpEnd, solve_either};
+use std::alloc::{AllocError, Global};
+use tableau::Exchange;
+
+/// Solves a box: its leaf, and the best plan after it.
+pub(crate) fn solve_box(
+    alloc: Global,
+    road: &Road,
+    range: BoxRange,
+    best: Option<Best>,
+) -> Result<Solved, AllocError>
+    requires accepted { road_fault road.now ≡ None }
+    requires fits { IsBoxOf road.now range }
+    requires best { IsBest road.now best }
+    ensures { IfOk result (λ solved. IsSolved road.now best range solved) }
+{
+    let milp = build(alloc, road, &range)?;
+    let end = end_of(alloc, road, &milp)?;
+    solve_end(alloc, road, range, &milp, end, best)
+}
+
+/// How the simplex ends on a program.
+#[tactic(auto, using(crate::proofs::SolvingLemmas::end_of_either))]
+fn end_of(alloc: Global, road: &Road, milp: &Milp) -> Result<LpEnd, AllocError>
+    requires accepted { road_fault road.now ≡ None }
+    ensures end { IfOk result (λ end. IsEnd (2 ^ 127 - 1) milp.now (exchange_budget road.now) end) }
+    ensures numbers { IfOk result (λ end. HasNumbersWithin (2 ^ 127 - 1) end) }
+{
+    let (end, _used) = solve_either::<W64, W128>(alloc, &Lp { milp }, exchange_budget(road))?;
+    Ok(end)
+}
+
+/// The greatest number of exchanges on one box.
+#[tactic(auto, using(crate::proofs::BudgetLemmas::pivots_some, crate::proofs::BudgetLemmas::pivots_few))]
+fn exchange_budget(road: &Road) -> u32
+    requires { road_fault road.now ≡ None }
+    ensures value { result ≡ exchange_budget road.now }
+    ensures some { 1 ≤ result }
+{
+    road.pivots.unsigned_abs() as u32
+}
+
+/// The leaf that an end gives, and the best plan after it.
+#[tactic(auto, using(crate::proofs::EndLemmas::spent_proving, crate::proofs::EndLemmas::wide_proving, crate::proofs::EndLemmas::optimum_proving, crate::proofs::EndLemmas::spent_solved, crate::proofs::EndLemmas::wide_solved, crate::proofs::EndLemmas::empty_solved))]
+fn solve_end(
+    alloc: Global,
+    road: &Road,
+    range: BoxRange,
+    milp: &Milp,
+    end: LpEnd,
+    best: Option<Best>,
+) -> Result<Solved, AllocError>
+    requires accepted { road_fault road.now ≡ None }
+    requires fits { IsBoxOf road.now range }
+    requires program { milp.now ≡ box_program road.now range }
+    requires end { IsEnd (2 ^ 127 - 1) milp.now (exchange_budget road.now) end }
+    requires numbers { HasNumbersWithin (2 ^ 127 - 1) end }
+    requires best { IsBest road.now best }
+    ensures { IfOk result (λ solved. IsSolved road.now best range solved) }
+{
+    match end {
+        LpEnd::Best {
+            trail,
+            den,
+            point,
+            scale,
+            mults,
+        } => {
+            let optimum = Optimum {
+                trail: Listed::new(trail),
+                den,
+                point: Listed::new(point),
+                scale,
+                mults: Listed::new(mults),
+            };
+            solve_optimum(alloc, road, range, milp, optimum, best)
+        }
+        LpEnd::Empty {
+            trail,
+            ray,
+            scale,
+            mults,
+        } => {
+            let leaf = empty_leaf(alloc, road, milp, trail, ray, scale, mults)?;
+            Ok(Solved { leaf, best })
+        }
+        LpEnd::Pivots {
+            trail,
+            scale,
+            mults,
+        } => {
+            let note = NodeNote::Pivots {
+                trail: Listed::new(trail),
+            };
+            let leaf = stopped_leaf(alloc, milp, note, scale, mults)?;
+            Ok(Solved { leaf, best })
+        }
+        LpEnd::Wide {
+            trail,
+            op,
+            scale,
+            mults,
+        } => {
+            let note = NodeNote::Wide {
+                trail: Listed::new(trail),
+                op,
+            };
+            let leaf = stopped_leaf(alloc, milp, note, scale, mults)?;
+            Ok(Solved { leaf, best })
+        }
+    }
+}
+
+/// A leaf whose simplex stopped, with what its multipliers prove.
+fn stopped_leaf(
+    alloc: Global,
+    milp: &Milp,
+    note: NodeNote,
+    scale: i128,
+    mults: Vec<i128>,
+) -> Result<Work, AllocError>
+    requires { AreProving milp.now scale mults.items }
+    ensures { IfOk result (λ leaf. IsStoppedLeaf milp.now scale mults.items note leaf) }
+{
+    let proved = prove(alloc, milp, scale, mults)?;
+    Ok(Work::Stopped { proved, note })
+}
+
+/// The leaf of an empty box: its narrowed ray, or, where that no longer proves it empty, what its multipliers prove.
+
+#[tactic(auto, using(crate::proofs::EndLemmas::dead_multipliers, crate::proofs::EndLemmas::dead_proving, crate::proofs::EndLemmas::empty_dead, crate::proofs::EndLemmas::empty_limit, crate::proofs::SolvingLemmas::below_range))]
+fn empty_leaf(
+    alloc: Global,
+    road: &Road,
+    milp: &Milp,
+    trail: Vec<Exchange>,
+    ray: Vec<i128>,
+    scale: i128,
+    mults: Vec<i128>,
+) -> Result<Work, AllocError>
+    requires dead { IsDead milp.now (exchange_budget road.now) trail.items ray.items scale mults.items }
+    requires ray { AreWithin (2 ^ 127 - 1) ray.items }
+    requires mults { AreWithin (2 ^ 127 - 1) mults.items }
+    ensures { IfOk result (λ leaf. IsEmptyLeaf road.now milp.now trail.items scale mults.items leaf) }
+{
+    let greatest = greatest_magnitude(ray.as_slice());
+    let ray = narrowed(from_one(greatest), ray);
+    if let Some(pairs) = dead_mults(alloc, milp, ray.mults.as_slice())? {
+        return Ok(emptied_leaf(pairs));
+    }
+    let note = NodeNote::Limit {
+        trail: Listed::new(trail),
+        value: greatest,
+    };
+    stopped_leaf(alloc, milp, note, scale, mults)
+}
+
+/// Multipliers as they are written down, where their dead value is above 0.
+#[tactic(auto, using(crate::proofs::EmptyLemmas::dead_written, crate::proofs::EmptyLemmas::not_dead, crate::proofs::ProvingLemmas::few_multipliers))]
+fn dead_mults(
+    alloc: Global,
+    milp: &Milp,
+    mults: &[i128],
+) -> Result<Option<Listed<(u32, i128)>>, AllocError>
+    requires mults { AreMultipliers milp.now mults.now }
+    ensures { IfOk result (λ pairs. AreDeadMults milp.now mults.now pairs) }
+{
+    let value = value_on(alloc, milp, 0, mults)?;
+    if value > 0 {
+        let pairs = written(alloc, mults)?;
+        return Ok(Some(pairs));
+    }
+    Ok(None)
+}
+
+/// A number, or 1 where it is less.
+fn from_one(x: i128) -> i128
+    ensures { result ≡ int_max x (pos 1) }
+{
+    if x < 1 { 1 } else { x }
+}
+
+/// The leaf of a box with an optimum, and the best plan after it.
+fn solve_optimum(
+    alloc: Global,
+    road: &Road,
+    range: BoxRange,
+    milp: &Milp,
+    optimum: Optimum,
+    best: Option<Best>,
+) -> Result<Solved, AllocError>
+    requires accepted { road_fault road.now ≡ None }
+    requires fits { IsBoxOf road.now range }
+    requires program { milp.now ≡ box_program road.now range }
+    requires optimum { IsOptimum (box_program road.now range) (exchange_budget road.now) optimum.trail optimum.den optimum.point optimum.scale optimum.mults }
+    requires numbers { AreProving milp.now optimum.scale optimum.mults }
+    requires best { IsBest road.now best }
+    ensures { IfOk result (λ solved. IsSolved road.now best range solved) }
+{
+    let mults = copied(alloc, optimum.mults.as_slice())?;
+    let proved = prove(alloc, milp, optimum.scale, mults)?;
+    leaf_of_optimum(alloc, road, range, optimum, proved, best)
+}
+
+/// The numbers in a vector of their own.
+fn copied(alloc: Global, numbers: &[i128]) -> Result<Vec<i128>, AllocError>
+    ensures { IfOk result (λ copy. copy.items ≡ numbers.now) }
+{
+    let mut copy = Vec::new(alloc);
+    copy.extend_from_slice(numbers)?;
+    Ok(copy)
+}
+
+/// The leaf of an optimum with what it proves: it waits to be split where it asks for a split, and else gives a plan.
+#[tactic(auto, using(crate::proofs::EndLemmas::den_scale, crate::proofs::EndLemmas::waiting_solved, crate::proofs::EndLemmas::denominator_solved, crate::proofs::WholeLemmas::whole_solved, crate::proofs::SearchLemmas::cost_key))]
+fn leaf_of_optimum(
+    alloc: Global,
+    road: &Road,
+    range: BoxRange,
+    optimum: Optimum,
+    proved: Proved,
+    best: Option<Best>,
+) -> Result<Solved, AllocError>
+    requires accepted { road_fault road.now ≡ None }
+    requires fits { IsBoxOf road.now range }
+    requires optimum { IsOptimumOf road.now range optimum proved }
+    requires best { IsBest road.now best }
+    ensures { IfOk result (λ solved. IsSolved road.now best range solved) }
+{
+    if let Some(split) = removal_split(road, &range, optimum.den, optimum.point.as_slice()) {
+        let leaf = waiting_leaf(range, split, optimum, proved);
+        return Ok(Solved { leaf, best });
+    }
+    if optimum.den > GREATEST_SCALE {
+        let den = optimum.den;
+        let leaf = limit_leaf(optimum, proved, den);
+        return Ok(Solved { leaf, best });
+    }
+    if let Some(split) = height_split(road, &range, optimum.den, optimum.point.as_slice()) {
+        let leaf = waiting_leaf(range, split, optimum, proved);
+        return Ok(Solved { leaf, best });
+    }
+    let found = plan_found(alloc, road, &range, optimum.den, optimum.point.as_slice())?;
+    Ok(whole_leaf(optimum, proved, found, best))
+}
+
+/// A leaf that waits to be split.
+fn waiting_leaf(range: BoxRange, split: Split, optimum: Optimum, proved: Proved) -> Work
+    ensures { grown_of result ≡ waiting_leaf (record { range = range; split = split; optimum = optimum; proved = proved }) }
+{
+    Work::Waiting {
+        leaf: Waiting {
+            range,
+            split,
+            optimum,
+            proved,
+        },
+    }
+}
+
+/// A leaf whose box is proved empty.
+fn emptied_leaf(mults: Listed<(u32, i128)>) -> Work
+    ensures { grown_of result ≡ dead_leaf mults }
+{
+    Work::Dead { mults }
+}
+
+/// A leaf whose optimum is a plan.
+fn done_leaf(proved: Proved) -> Work
+    ensures { grown_of result ≡ whole_leaf proved }
+{
+    Work::Whole { proved }
+}
+
+/// The leaf of an optimum with a number past the limit.
+fn limit_leaf(optimum: Optimum, proved: Proved, value: i128) -> Work
+    ensures { grown_of result ≡ stopped_leaf proved (Limit optimum.trail value) }
+{
+    Work::Stopped {
+        proved,
+        note: NodeNote::Limit {
+            trail: optimum.trail,
+            value,
+        },
+    }
+}
+
+/// The split of the first removal that is neither done nor undone.
+#[tactic(auto, using(crate::proofs::EndLemmas::well_formed_of, crate::proofs::EndLemmas::removal_is_asked))]
+fn removal_split(road: &Road, range: &BoxRange, den: i128, point: &[i128]) -> Option<Split>
+    requires accepted { road_fault road.now ≡ None }
+    requires fits { IsBoxOf road.now range.now }
+    requires den { pos 1 ≤ℤ den }
+    requires point { IsPoint (box_program road.now range.now) den point.now }
+    ensures { MatchOption result (HasWholeRemovals road.now den point.now) (λ split. IsAsked road.now range.now den point.now split) }
+{
+    match part_removal(road, den, point) {
+        Some((block, stage)) => Some(Split::Removal { block, stage }),
+        None => None,
+    }
+}
+
+/// The split of the section whose volume is furthest from that of its offset: at the ground where that lies strictly inside its
+/// range of offsets, and else at the breakpoint inside that is nearest to it.
+#[tactic(auto, using(crate::proofs::EndLemmas::well_formed_of, crate::proofs::EndLemmas::small_of, crate::proofs::EndLemmas::height_is_asked, crate::proofs::EndLemmas::tables_at, crate::proofs::EndLemmas::inside_at, crate::proofs::EndLemmas::section_number, crate::proofs::EndLemmas::height_number))]
+fn height_split(road: &Road, range: &BoxRange, den: i128, point: &[i128]) -> Option<Split>
+    requires accepted { road_fault road.now ≡ None }
+    requires fits { IsBoxOf road.now range.now }
+    requires den { IsScale den }
+    requires point { IsPoint (box_program road.now range.now) den point.now }
+    ensures { MatchOption result (HasExactVolumes road.now den point.now) (λ split. IsAsked road.now range.now den point.now split) }
+{
+    match worst_section(road, den, point) {
+        Some(section) => Some(Split::Height {
+            section,
+            at: breakpoint_at(road, range, section),
+        }),
+        None => None,
+    }
+}
+
+/// The breakpoint at which a section with one strictly inside its range is split.
+fn breakpoint_at(road: &Road, range: &BoxRange, number: usize) -> i64
+    requires number { IsNumber number (section_count road.now) }
+    requires ranges { IsNumber number (length range.now.heights) }
+    requires tables { HasSlabTables (section road.now number) }
+    requires inside { HasBreakpointInside (section road.now number) (height_range range.now.heights number) }
+    ensures { IsInnerBreakpoint (section road.now number) (height_range range.now.heights number) result }
+{
+    match inner_breakpoint(road.section(number), height_range(range, number)) {
+        Some(at) => at,
+        None => unreachable!(),
+    }
+}
+
+/// The range of offsets of a section.
+#[tactic(auto, using(crate::proofs::EndLemmas::range_at))]
+fn height_range(range: &BoxRange, number: usize) -> (i64, i64)
+    requires { IsNumber number (length range.now.heights) }
+    ensures { result ≡ height_range range.now.heights number }
+{
+    range.heights.as_slice()[number - 1]
+}
+
+/// The plan of a point that asks for no split, with its cost.
+#[tactic(auto, using(crate::proofs::PricedLemmas::priced_plan, crate::proofs::PricedLemmas::some_plan))]
+fn plan_found(
+    alloc: Global,
+    road: &Road,
+    range: &BoxRange,
+    den: i128,
+    point: &[i128],
+) -> Result<Best, AllocError>
+    requires accepted { road_fault road.now ≡ None }
+    requires fits { IsBoxOf road.now range.now }
+    requires den { IsScale den }
+    requires point { IsPoint (box_program road.now range.now) den point.now }
+    requires whole { HasWholeRemovals road.now den point.now }
+    requires exact { HasExactVolumes road.now den point.now }
+    ensures { IfOk result (λ found. IsPriced road.now (box_program road.now range.now) den point.now found) }
+{
+    match plan_of(alloc, road, range, den, point)? {
+        Some(plan) => Ok(priced(road, plan)),
+        None => unreachable!(),
+    }
+}
+
+/// An admissible plan with its cost.
+fn priced(road: &Road, plan: Plan) -> Best
+    requires accepted { road_fault road.now ≡ None }
+    requires admissible { IsAdmissible road.now plan }
+    requires den { IsScale plan.den }
+    ensures plan { result.plan ≡ plan }
+    ensures cost { HasValue result.cost (cost_of road.now plan) plan.den }
+    ensures lowest { IsLowest result.cost }
+{
+    let cost = cost_of(road, &plan);
+    match Frac::new(cost, plan.den) {
+        Some(cost) => Best { plan, cost },
+        None => unreachable!(),
+    }
+}
+
+/// The cost of an admissible plan, over its denominator.
+fn cost_of(road: &Road, plan: &Plan) -> i128
+    requires accepted { road_fault road.now ≡ None }
+    requires admissible { IsAdmissible road.now plan.now }
+    requires den { IsScale plan.now.den }
+    ensures value { result ≡ cost_of road.now plan.now }
+    ensures width { unsigned_abs result ≤ 2 ^ 118 }
+{
+    match judge(road, plan) {
+        Verdict::Admissible { cost } => cost,
+        Verdict::Broken { .. } => unreachable!(),
+    }
+}
+
+/// The leaf of an optimum that is a plan, and the best plan after it: its bound is the plan's cost, unless a number past the
+/// limit had to be narrowed.
+#[tactic(auto, using(crate::proofs::WholeLemmas::whole_is, crate::proofs::WholeLemmas::past_is))]
+fn whole_leaf(optimum: Optimum, proved: Proved, found: Best, best: Option<Best>) -> Solved
+    requires scale { pos 1 ≤ℤ optimum.scale }
+    requires within { All (λ y. unsigned_abs y < 2 ^ 127) optimum.mults }
+    requires found { IsKey (found.cost.num, found.cost.den) }
+    requires best { IsCostKey (cost_at best) }
+    ensures { IsWholeLeaf optimum proved found best result }
+{
+    let best = Some(cheaper(found, best));
+    match past_limit(optimum.scale, optimum.mults.as_slice()) {
+        None => Solved {
+            leaf: done_leaf(proved),
+            best,
+        },
+        Some(value) => Solved {
+            leaf: limit_leaf(optimum, proved, value),
+            best,
+        },
+    }
+}
+
+/// The cheaper of two plans, the old one where they cost as much.
+#[tactic(auto, using(crate::proofs::WholeLemmas::keeps_old, crate::proofs::WholeLemmas::takes_found, crate::proofs::WholeLemmas::takes_first))]
+fn cheaper(found: Best, old: Option<Best>) -> Best
+    requires found { IsKey (found.cost.num, found.cost.den) }
+    requires old { IsCostKey (cost_at old) }
+    ensures { IsCheaper found old result }
+{
+    let Some(old) = old else {
+        return found;
+    };
+    if is_at_most(
+        (old.cost.num(), old.cost.den()),
+        (found.cost.num(), found.cost.den()),
+    ) {
+        old
+    } else {
+        found
+    }
+}
