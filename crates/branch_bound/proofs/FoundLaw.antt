@@ -1,5 +1,5 @@
 -- The certificate and the notes of a search that is finished are what a search is to answer.
-use Rattle.std.proofs.Common.{◌≡◌, ℕ, Option, Some, None, sym, subst}
+use Rattle.std.proofs.Common.{◌≡◌, ℕ, ◌^◌, ◌≤◌, length, Option, Some, None, sym, subst}
 use Rattle.numbers.specs.Fractions.{Fraction}
 use Rattle.road_types.specs.Faults.{road_fault}
 use Rattle.road_types.proofs.AcceptedRoad.{IsAccepted-from_fault}
@@ -10,7 +10,10 @@ use Rattle.std.proofs.Common.{arith}
 use Rattle.std.proofs.lemmas.Int.{ints}
 use Rattle.cert_tree.specs.Trees.{BoxTree, box_tree_of}
 use Rattle.cert_tree.specs.Soundness.{IsSound}
+use Rattle.cert_text.specs.CertText.{cert_text}
 use Rattle.cert_text.specs.Certs.{certificate_of}
+use Rattle.cert_text.specs.Validity.{longest_text}
+use Rattle.cert_text.proofs.ValidLaws.{valid_unbeaten}
 use Rattle.branch_bound.specs.Noted.{tree_of, notes_of}
 use Rattle.branch_bound.specs.Endings.{HasPlanAt}
 use Rattle.branch_bound.specs.Searched.{IsSearched}
@@ -25,11 +28,16 @@ use Rattle.branch_bound.proofs.SearchLemmas.{search_keys, cost_key}
 use Rattle.branch_bound.proofs.SearchedLaw.{searched}
 use Rattle.branch_bound.proofs.LeastLemmas.{least_of_leaves}
 use Rattle.branch_bound.proofs.SpelledLaw.{spelled_found}
+use Rattle.branch_bound.proofs.ValidLaw.{valid_search}
 use Rattle.branch_bound.proofs.TextLengths.{cert_length}
 
 pub plan_of_best : (road : Road) (best : Option Best) → IsBest road best → HasPlanAt road (plan_at best) (cost_at best)
 plan_of_best road None h = tt
 plan_of_best road (Some best) h = h.plan_at
+
+short_text : (n : ℕ) → n ≤ 2 ^ 26 → n ≤ longest_text
+unfolding longest_text
+short_text n h = h
 
 pub found_is : (road : Road) (finished : Finished) (found : Found) → road_fault road ≡ None → IsFinishedSearch road finished
     → found.cert.plan ≡ plan_at finished.search.best → found.cert.cost ≡ cost_at finished.search.best
@@ -52,13 +60,16 @@ found_is road finished found accepted h p c bound tree notes count =
     let searched_is = subst (λ (n : ℕ). IsSearched road found.cert.plan found.cert.cost found.cert.bound (box_tree_of found.cert.tree) n found.notes) (sym count) with_cost in
     let sound = subst (λ (t : BoxTree). IsSound road found.cert.bound t (root_box road)) (sym searched_is.own_tree) searched_is.sound in
     let spelled = spelled_found road a.well_formed finished.search.best grown found.cert h.search.best_is p c bound sound in
+    let valid = valid_search road found.cert found.count found.notes searched_is in
     let counted = searched_is.counted in
     let within = searched_is.within_budget in
     let most = a.well_formed.nodes.at_most in
     record {
       searched = searched_is;
+      valid = valid;
+      unbeaten = valid_unbeaten road a (certificate_of found.cert) spelled.has_text.bound valid;
       spelled = spelled;
-      short = cert_length road a (certificate_of found.cert) spelled.has_text (omega (arith, ints, counted, within, most));
+      short = short_text (length (cert_text road (certificate_of found.cert))) (cert_length road a (certificate_of found.cert) spelled.has_text (omega (arith, ints, counted, within, most)));
     }
 
 pub finished_keys : (road : Road) (finished : Finished) → IsFinishedSearch road finished → AreKeys (grown_of finished.search.work)

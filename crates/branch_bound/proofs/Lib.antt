@@ -18,6 +18,7 @@ pub mod WholeLemmas
 pub mod PlanWidths
 pub mod PricedLemmas
 pub mod DepthLaw
+pub mod ValidLaw
 pub mod FoundLaw
 pub mod LowestKeys
 pub mod BudgetLemmas

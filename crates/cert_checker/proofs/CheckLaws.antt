@@ -4,16 +4,15 @@ use Rattle.numbers.specs.Fractions.{Fraction}
 use Rattle.road_types.specs.declared.road.Road.{Road}
 use Rattle.road_types.specs.Accepted.{IsAccepted}
 use Rattle.milp_builder.specs.Boxes.{root_box}
-use Rattle.milp_builder.proofs.RootBox.{root_box_fits, root_box_covers}
 use Rattle.cert_tree.specs.Trees.{BoxTree}
-use Rattle.cert_tree.specs.Soundness.{Bounds, HasPositiveDen, has_low}
-use Rattle.cert_tree.proofs.Lift.{sound_bounds}
+use Rattle.cert_tree.specs.Soundness.{has_low}
 use Rattle.cert_text.specs.declared.heading.PricedPlan.{PricedPlan}
 use Rattle.cert_text.specs.NodeText.{most_levels}
-use Rattle.cert_text.specs.CertText.{Certificate, IsCertText, IsStatedOrNone, IsPricedOrNone}
+use Rattle.cert_text.specs.CertText.{Certificate, IsCertText, IsPricedOrNone}
 use Rattle.cert_text.specs.inside.CertReading.{cert_of_text}
 use Rattle.cert_text.proofs.CertLaws.{cert_of_text-found, cert_of_text-exact}
 use Rattle.cert_text.proofs.MisfitLaws.{refused_line-is}
+use Rattle.cert_text.proofs.ValidLaws.{valid_unbeaten}
 use Rattle.cert_checker.specs.declared.refusal.Refusal.{Refusal}
 use Rattle.cert_checker.specs.declared.refusal.CertRule.{CertRule}
 use Rattle.cert_checker.specs.declared.refusal.Checked.{Checked}
@@ -21,7 +20,8 @@ use Rattle.cert_checker.specs.declared.refusal.CheckErr.{CheckErr}
 use Rattle.cert_checker.specs.declared.refusal.CheckErr.TheVariants.{Refused, NoMemory}
 use Rattle.cert_checker.specs.declared.checking.Findings.{Findings}
 use Rattle.cert_checker.specs.Refusals.{refused, first_of, IsTreeRefusal, IsPlanRefusal, last_refusal, IsCertRefusal, IsFirstRefusal, Answers, IsNoValidText, RefusesRightly}
-use Rattle.cert_checker.specs.Validity.{IsPlannedRight, IsBoundRight, IsValid, longest_text, IsAttained, IsUnbeaten, IsProved, stated_cost, IsAnswerOf}
+use Rattle.cert_text.specs.Validity.{IsPlannedRight, IsBoundRight, IsValid, longest_text, IsAttained, IsUnbeaten, stated_cost}
+use Rattle.cert_checker.specs.Answered.{IsProved, IsAnswerOf}
 use Rattle.cert_checker.specs.inside.Findings.{AreFound, IsFirstOfFindings, AnswersBy}
 use Rattle.cert_checker.proofs.ValidLaws.{first_none, none_first, StatesLow, sound_tree, sound_unrefused}
 
@@ -146,21 +146,13 @@ attained road bytes cert (Some priced) text is h = record {
   value = h.1;
 }
 
-positive_den : (bound : Option Fraction) → IsStatedOrNone bound → HasPositiveDen bound
-positive_den None h = tt
-positive_den (Some bound) h = h.den_within.from_one
-
-unbeaten : (road : Road) (bound : Option Fraction) → Bounds road bound (root_box road) → IsUnbeaten road bound
-unbeaten road None h = λ plan admissible. h plan admissible (root_box_covers road plan admissible)
-unbeaten road (Some bound) h = λ plan admissible. h plan admissible (root_box_covers road plan admissible)
-
 pub is_proved : (road : Road) → IsAccepted road → (bytes : List ℕ) (checked : Checked) → IsAnswerOf road bytes checked → IsProved road bytes checked
 is_proved road a bytes checked h =
     let valid = h.valid.valid in
-    let bounds = sound_bounds road a h.cert.bound (positive_den h.cert.bound h.valid.text.has_text.bound) h.cert.tree (root_box road) (root_box_fits road a.well_formed) valid.sound in
+    let never = valid_unbeaten road a h.cert h.valid.text.has_text.bound valid in
     record {
       cost = subst (λ cost. IfSome cost (IsAttained road bytes)) (sym h.cost_is) (attained road bytes h.cert h.cert.planned h.valid.text refl valid.planned);
-      bound = subst (IsUnbeaten road) (sym h.bound_is) (unbeaten road h.cert.bound bounds);
+      bound = subst (IsUnbeaten road) (sym h.bound_is) never;
     }
 
 pub proved : (road : Road) → IsAccepted road → (bytes : List ℕ) (result : Result Checked CheckErr) → Answers road bytes result → IfOk result (IsProved road bytes)

@@ -1,3 +1,3 @@
-pub mod Validity
+pub mod Answered
 pub mod Refusals
 pub mod inside

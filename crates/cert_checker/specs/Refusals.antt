@@ -1,6 +1,6 @@
 -- Why bytes are refused as a certificate: the first broken rule, C1 to C9, with its line. The text comes first, then the plan and its
 -- cost, then the nodes of the tree in the order of the text, and last whether a bound stands. Each relation gives the first refusal, or
--- none where nothing is refused. Without a bound no low leaf is refused in the tree: the last rule refuses it.
+-- none where nothing is refused. Without a bound a low leaf is refused in the tree for its signs alone: the last rule refuses the bound that is missing.
 use Rattle.std.specs.Prelude.{ℕ, ◌≡◌, ◌+◌, ◌-◌, ◌<◌, ◌≤◌, List, [], ◌∷◌, ◌++◌, length, Bool, true, false, ◌&&◌, ◌⊎◌, Option, Some, None, if◌then◌else◌, Result, Ok, Err, ℤ, pos, ◌*ℤ◌, int_lt, codes}
 use Rattle.numbers.specs.Fractions.{Fraction}
 use Rattle.programs.specs.Programs.{Program, row_at}
@@ -25,7 +25,8 @@ use Rattle.cert_checker.specs.declared.refusal.Refusal.{Refusal}
 use Rattle.cert_checker.specs.declared.refusal.CheckErr.{CheckErr}
 use Rattle.cert_checker.specs.declared.refusal.CheckErr.TheVariants.{Refused, NoMemory}
 use Rattle.cert_checker.specs.declared.refusal.Checked.{Checked}
-use Rattle.cert_checker.specs.Validity.{IsCostOf, longest_text, IsValidText, IsAnswerOf}
+use Rattle.cert_text.specs.Validity.{IsCostOf, longest_text, IsValidText}
+use Rattle.cert_checker.specs.Answered.{IsAnswerOf}
 
 abbrev pub refused : CertRule → ℕ → Option Refusal
 refused rule line = Some (record { rule = rule; line = line })

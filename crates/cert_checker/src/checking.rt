@@ -5,23 +5,21 @@ ghost use Rattle.numbers.specs.Fractions.{HasValue, IsReduced};
 ghost use Rattle.road_types.specs.Faults.{road_fault};
 ghost use Rattle.plan_text.specs.PlanText.{HasText};
 ghost use Rattle.cert_text.specs.CertText.{IsStated, IsPricedOrNone};
-ghost use Rattle.cert_checker.specs.Validity.{longest_text, IsProved, stated_cost};
+ghost use Rattle.cert_text.specs.Validity.{longest_text, stated_cost};
+ghost use Rattle.cert_checker.specs.Answered.{IsProved};
 ghost use Rattle.cert_checker.specs.Refusals.{first_of, IsPlanRefusal, last_refusal, Answers, RefusesRightly, HasOneRefusal};
 ghost use Rattle.cert_checker.specs.inside.Findings.{FindsOrLine, AreFound, EndsText, IsFirstOfFindings, AnswersBy};
 
 use crate::refusal::{CertRule, CheckErr, Checked, Refusal};
 use crate::walk::{Walked, walk_tree};
 use algebra::same;
-use cert_text::{Heading, PricedPlan, read_end, read_heading};
+use cert_text::{Heading, LONGEST_TEXT, PricedPlan, read_end, read_heading};
 use numbers::Frac;
 use plan_rules::{Verdict, judge};
 use plan_text::TextErr;
 use road_types::Road;
 use std::alloc::Global;
 use text_parts::Lines;
-
-/// The greatest length of a certificate's text, in bytes.
-pub const LONGEST_TEXT: usize = 67_108_864;
 
 /// What one pass over the bytes finds.
 #[derive(Drop)]
@@ -213,7 +211,7 @@ fn conclude(road: &Road, bytes: &[u8], findings: Findings) -> Result<Checked, Ch
 }
 
 /// Whether the bytes are no more than a certificate's text may be.
-#[tactic(auto, unfolding(crate::specs::Validity::longest_text))]
+#[tactic(auto, unfolding(cert_text::specs::Validity::longest_text))]
 fn is_short(bytes: &[u8]) -> bool
     ensures { IsTrue result ↔ length bytes.now ≤ longest_text }
 {

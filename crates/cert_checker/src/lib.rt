@@ -7,5 +7,5 @@ mod leaf;
 mod refusal;
 mod walk;
 
-pub use checking::{LONGEST_TEXT, check};
+pub use checking::check;
 pub use refusal::{CertRule, CheckErr, Checked, Refusal};

@@ -14,7 +14,8 @@ use Rattle.cert_text.specs.NodeText.{spelled_words, tree_text}
 use Rattle.cert_text.specs.CertText.{Certificate, planned_text, bound_words, cert_text, IsCertText}
 use Rattle.cert_text.specs.inside.CertReading.{heading_due}
 use Rattle.cert_text.proofs.CertLaws.{heading_text, heading_spells}
-use Rattle.cert_checker.specs.Validity.{IsPlannedRight, IsUnbeaten, IsAnswerOf, IsProved}
+use Rattle.cert_text.specs.Validity.{IsPlannedRight, IsUnbeaten}
+use Rattle.cert_checker.specs.Answered.{IsAnswerOf, IsProved}
 use Rattle.cert_checker.specs.declared.refusal.Checked.{Checked}
 use Rattle.cert_report.specs.CertReport.{open_leaves}
 use Rattle.cert_report.specs.inside.Counting.{IsCounted}

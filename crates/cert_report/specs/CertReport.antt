@@ -8,7 +8,7 @@ use Rattle.cert_tree.specs.declared.tree.Why.TheVariants.{Nodes, Pivots, Width}
 use Rattle.cert_tree.specs.Trees.{BoxTree, low, dead, fork}
 use Rattle.cert_text.specs.declared.heading.PricedPlan.{PricedPlan}
 use Rattle.cert_text.specs.CertText.{Certificate}
-use Rattle.cert_checker.specs.Validity.{IsValidText}
+use Rattle.cert_text.specs.Validity.{IsValidText}
 use Rattle.cert_checker.specs.Refusals.{refused, IsFirstRefusal, IsNoValidText}
 use Rattle.cert_checker.specs.declared.refusal.CertRule.{CertRule}
 use Rattle.cert_checker.specs.declared.refusal.CheckErr.{CheckErr}

@@ -10,6 +10,7 @@ pub mod CertLemmas
 pub mod LowestLaws
 pub mod HeadingLaws
 pub mod CertLaws
+pub mod ValidLaws
 pub mod LineCounts
 pub mod MisfitLaws
 pub mod ReadLaws

@@ -2,6 +2,7 @@ pub mod NodeText
 pub mod Steps
 pub mod CertText
 pub mod Certs
+pub mod Validity
 pub mod WordForms
 pub mod Fractions
 pub mod StatedForms

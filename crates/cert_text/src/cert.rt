@@ -2,6 +2,9 @@ use cert_tree::Tree;
 use numbers::Frac;
 use plan_rules::Plan;
 
+/// The greatest length of a certificate's text, in bytes.
+pub const LONGEST_TEXT: usize = 67_108_864;
+
 /// A certificate of a road: a plan with its cost, or neither; a bound of all costs, or none; and the tree that proves it.
 #[derive(Debug, Drop)]
 pub struct Cert {

@@ -15,7 +15,7 @@ mod step;
 mod words;
 mod write;
 
-pub use cert::Cert;
+pub use cert::{Cert, LONGEST_TEXT};
 pub use heading::{Heading, PricedPlan, read_end, read_heading};
 pub use leaf::LeafBuf;
 pub use nodes::NodeReader;

@@ -32,7 +32,7 @@ use Rattle.cert_report.specs.CertReport.{cert_lines}
 use Rattle.road_types.specs.Accepted.{IsAccepted}
 use Rattle.cert_text.specs.inside.CertReading.{cert_of_text}
 use Rattle.cert_checker.specs.Refusals.{refused}
-use Rattle.cert_checker.specs.Validity.{stated_cost}
+use Rattle.cert_text.specs.Validity.{stated_cost}
 use Rattle.cert_checker.specs.declared.refusal.Refusal.{Refusal}
 use Rattle.cert_checker.proofs.OneRefusal.{one_refusal}
 use Rattle.cert_text.specs.CertText.{Certificate, IsCertText}

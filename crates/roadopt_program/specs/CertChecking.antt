@@ -6,7 +6,7 @@ use Rattle.road_types.specs.declared.road.Road.{Road}
 use Rattle.road_types.specs.Faults.{road_fault}
 use Rattle.cert_checker.specs.declared.refusal.Checked.{Checked}
 use Rattle.cert_checker.specs.declared.refusal.CertRule.{CertRule}
-use Rattle.cert_checker.specs.Validity.{IsAnswerOf}
+use Rattle.cert_checker.specs.Answered.{IsAnswerOf}
 use Rattle.cert_checker.specs.Refusals.{refused, IsFirstRefusal, IsNoValidText}
 use Rattle.roadopt_program.specs.declared.status.Status.{Status}
 use Rattle.roadopt_program.specs.declared.status.Status.TheVariants.{Done, CertRefused}

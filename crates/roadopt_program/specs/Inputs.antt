@@ -10,7 +10,7 @@ use Rattle.outside.specs.Files.{Files}
 use Rattle.road_types.specs.Limits.{longest_file}
 use Rattle.road_types.specs.declared.fault.Fault.{Fault}
 use Rattle.road_file.specs.RoadOf.{table_name_of}
-use Rattle.cert_checker.specs.Validity.{longest_text}
+use Rattle.cert_text.specs.Validity.{longest_text}
 use Rattle.roadopt_program.specs.declared.forms.Verb.{Verb}
 use Rattle.roadopt_program.specs.declared.forms.Verb.TheVariants.{Judge, Check, Replay}
 use Rattle.roadopt_program.specs.Forms.{Command}

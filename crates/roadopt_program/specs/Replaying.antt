@@ -5,7 +5,7 @@ use Rattle.std.specs.Prelude.{◌≡◌, ℕ, Option, Some, None, List}
 use Rattle.road_types.specs.declared.road.Road.{Road}
 use Rattle.road_types.specs.Faults.{road_fault}
 use Rattle.cert_text.specs.CertText.{Certificate}
-use Rattle.cert_checker.specs.Validity.{IsValidText}
+use Rattle.cert_text.specs.Validity.{IsValidText}
 use Rattle.report.specs.Lines.{AreLines}
 use Rattle.cert_report.specs.CertReport.{cert_lines}
 use Rattle.roadopt_program.specs.declared.status.Status.{Status}

@@ -6,7 +6,7 @@ ghost use Rattle.roadopt_program.specs.Inputs.{road_limit, cert_limit, other_lim
 ghost use Rattle.roadopt_program.specs.declared.inputs.Lost.TheVariants.{NoMemory};
 
 use crate::forms::Verb;
-use cert_checker::LONGEST_TEXT;
+use cert_text::LONGEST_TEXT;
 use outside::{Store, StoreErr};
 use road_types::LONGEST_FILE;
 use std::alloc::{AllocError, Global};
@@ -38,7 +38,7 @@ pub(crate) fn road_limit() -> usize
 }
 
 /// How many bytes of a certificate's file are read at the most.
-#[tactic(auto, unfolding(crate::specs::Inputs::cert_limit, cert_checker::specs::Validity::longest_text))]
+#[tactic(auto, unfolding(crate::specs::Inputs::cert_limit, cert_text::specs::Validity::longest_text))]
 pub(crate) fn cert_limit() -> usize
     ensures value { result ≡ cert_limit }
     ensures within { result ≤ 2 ^ 26 + 1 }

@@ -11,7 +11,7 @@ use Rattle.cert_text.specs.Misfits.{refused_line}
 use Rattle.cert_text.specs.inside.CertReading.{cert_of_text}
 use Rattle.cert_checker.specs.declared.checking.Findings.{Findings}
 use Rattle.cert_checker.specs.Refusals.{stated_text, EndsAtLine, first_of, IsPlanRefusal, IsTreeRefusal, last_refusal}
-use Rattle.cert_checker.specs.Validity.{stated_cost}
+use Rattle.cert_text.specs.Validity.{stated_cost}
 use Rattle.cert_checker.specs.declared.refusal.Refusal.{Refusal}
 use Rattle.cert_checker.specs.declared.refusal.Checked.{Checked}
 use Rattle.cert_checker.specs.declared.refusal.CheckErr.{CheckErr}

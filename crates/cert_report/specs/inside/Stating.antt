@@ -4,7 +4,7 @@ use Rattle.road_types.specs.declared.road.Road.{Road}
 use Rattle.plan_text.specs.declared.error.TextErr.{TextErr}
 use Rattle.plan_text.specs.declared.error.TextErr.TheVariants.{Bad, NoMemory}
 use Rattle.cert_text.specs.CertText.{Certificate}
-use Rattle.cert_checker.specs.Validity.{IsValidText}
+use Rattle.cert_text.specs.Validity.{IsValidText}
 use Rattle.cert_report.specs.declared.replaying.Stated.{Stated}
 use Rattle.cert_report.specs.CertReport.{open_leaves}
 

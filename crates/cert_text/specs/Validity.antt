@@ -1,6 +1,6 @@
 -- A certificate is valid where its plan is admissible and costs what is stated, a bound stands exactly where some leaf is low, and
--- the tree is sound on the box of all plans. Here stand valid certificates and their texts.
-use Rattle.std.specs.Prelude.{ℕ, ◌≡◌, ◌^◌, ◌≤◌, List, length, Bool, true, false, Option, Some, None, IfSome}
+-- the tree is sound on the box of all plans. Here stand valid certificates and their texts, and what they prove.
+use Rattle.std.specs.Prelude.{ℕ, ◌≡◌, ◌^◌, ◌≤◌, List, length, Bool, true, false, Option, Some, None}
 use Rattle.numbers.specs.Fractions.{Fraction, IsLowest, HasValue}
 use Rattle.road_types.specs.declared.road.Road.{Road}
 use Rattle.plan_rules.specs.Rules.{IsAdmissible}
@@ -10,7 +10,6 @@ use Rattle.milp_builder.specs.Boxes.{root_box}
 use Rattle.cert_tree.specs.Soundness.{IsSound, has_low}
 use Rattle.cert_text.specs.declared.heading.PricedPlan.{PricedPlan}
 use Rattle.cert_text.specs.CertText.{Certificate, IsCertText}
-use Rattle.cert_checker.specs.declared.refusal.Checked.{Checked}
 
 -- the stated cost is the plan's cost over its denominator, in lowest terms
 pub record IsCostOf (road : Road) (priced : PricedPlan) : Type 0 where
@@ -62,19 +61,7 @@ abbrev pub IsUnbeaten : Road → Option Fraction → Type 0
 IsUnbeaten road None = (plan : Plan) → IsAdmissible road plan → ⊥
 IsUnbeaten road (Some bound) = (plan : Plan) → IsAdmissible road plan → Undercuts road plan bound.num bound.den → ⊥
 
--- what an answer states is proved by the bytes
-pub record IsProved (road : Road) (bytes : List ℕ) (checked : Checked) : Type 0 where
-  pub cost : IfSome checked.cost (IsAttained road bytes)
-  pub bound : IsUnbeaten road checked.bound
-
 -- the cost that is stated with a plan
 abbrev pub stated_cost : Option PricedPlan → Option Fraction
 stated_cost None = None
 stated_cost (Some priced) = Some priced.cost
-
--- the bytes are the text of a valid certificate that states this cost and this bound
-pub record IsAnswerOf (road : Road) (bytes : List ℕ) (checked : Checked) : Type 0 where
-  pub cert : Certificate
-  pub valid : IsValidText road bytes cert
-  pub cost_is : checked.cost ≡ stated_cost cert.planned
-  pub bound_is : checked.bound ≡ cert.bound
