@@ -1,2 +1,3 @@
 pub mod CountingLemmas
+pub mod HeldLemmas
 pub mod StatingLemmas

@@ -66,7 +66,7 @@ not_counted cert NoMemory h = tt
 
 -- ---- a valid certificate with a plan has a bound
 
-no_plan : (road : Road) (planned : Option PricedPlan) → IsPlannedRight road planned → IsUnbeaten road None → planned ≡ None
+pub no_plan : (road : Road) (planned : Option PricedPlan) → IsPlannedRight road planned → IsUnbeaten road None → planned ≡ None
 no_plan road None p u = refl
 no_plan road (Some priced) p u = absurd (u priced.plan p.0)
 

@@ -14,9 +14,10 @@ use std::alloc::Global;
 use text_parts::Lines;
 
 /// Counts a leaf with this cause.
-fn count_cause(cause: Option<Why>, leaves: &mut OpenLeaves)
+pub(crate) fn count_cause(cause: Option<Why>, leaves: &mut OpenLeaves)
     requires { count_of leaves.old < 2 ^ 63 }
-    ensures { leaves.new ≡ with_cause leaves.old cause }
+    ensures counted { leaves.new ≡ with_cause leaves.old cause }
+    ensures few { count_of leaves.new ≤ count_of leaves.old + 1 }
 {
     match cause {
         Some(Why::Nodes) => leaves.nodes += 1,

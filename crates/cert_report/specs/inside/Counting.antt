@@ -39,6 +39,14 @@ with_trees leaves trees = record {
   width = leaves.width + forest_sum for_width trees;
 }
 
+-- the leaves with those of a tree
+abbrev pub with_tree : OpenLeaves → BoxTree → OpenLeaves
+with_tree leaves tree = record {
+  nodes = leaves.nodes + leaf_sum for_nodes tree;
+  pivots = leaves.pivots + leaf_sum for_pivots tree;
+  width = leaves.width + leaf_sum for_width tree;
+}
+
 -- these trees are due on these levels, their texts come next, and with their leaves this is the whole count
 pub record IsCountedTo (rows : ℕ) (levels : List ℕ) (lines : Reading) (leaves : OpenLeaves) (rest : List ℕ) (whole : OpenLeaves) : Type 0 where
   pub trees : List BoxTree
