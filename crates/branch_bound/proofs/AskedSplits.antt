@@ -31,7 +31,7 @@ use Rattle.milp_builder.specs.declared.boxes.Split.TheVariants.{Removal, Height}
 use Rattle.milp_builder.proofs.BoxLaws.{points_are_plans}
 use Rattle.branch_bound.specs.Optima.{AsksFor, AsksForSplit}
 use Rattle.branch_bound.specs.inside.Splitting.{IsInnerBreakpoint}
-use Rattle.branch_bound.specs.inside.Solving.{IsAsked}
+use Rattle.branch_bound.specs.inside.Asking.{IsAsked}
 
 -- the bounds of an opened block by two tests
 abbrev chosen : Bool → Bool → ℤ × ℤ

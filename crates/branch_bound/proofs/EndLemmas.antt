@@ -1,43 +1,27 @@
 -- What the functions that solve a box need, said of a road without a fault: one lemma for each step.
-use Rattle.std.proofs.Common.{◌≡◌, ℕ, ◌-◌, ◌^◌, Option, Some, None, List, length, get_or, refl, sym, ap, subst, inl, inr, ⊎_elim, ◌∙◌}
+use Rattle.std.proofs.Common.{◌≡◌, ℕ, ◌-◌, ◌^◌, Option, Some, None, List, length, refl, ap, subst, inl, inr, ⊎_elim, ◌∙◌}
 use Rattle.std.specs.Prelude.{ℤ, pos, ◌≤ℤ◌, ◌<ℤ◌}
 use Rattle.std.specs.Int.{int_max}
 use Rattle.std.specs.List.{All}
 use Rattle.algebra.specs.Scale.{IsScale, greatest_scale}
 use Rattle.algebra.proofs.Order.{int_lt_or_le}
-use Rattle.algebra.proofs.NumberedLemmas.{numbered_at}
 use Rattle.programs.specs.Programs.{Program, row_count}
-use Rattle.programs.specs.Points.{IsPoint}
 use Rattle.safe_bounds.specs.Values.{IsMultiplier, AreMultipliers, HasRightSigns}
 use Rattle.safe_bounds.specs.Narrowing.{AreNarrow, IsNarrowed}
-use Rattle.road_types.specs.Numbered.{IsNumber}
-use Rattle.road_types.specs.Faults.{road_fault}
-use Rattle.road_types.specs.WellFormed.{IsWellFormed}
-use Rattle.road_types.specs.Ranges.{height_range}
-use Rattle.road_types.specs.Road.{section, section_count}
-use Rattle.road_types.proofs.AcceptedRoad.{IsAccepted-from_fault}
 use Rattle.road_types.specs.declared.road.Road.{Road}
-use Rattle.volume_lines.specs.InnerBreakpoints.{HasBreakpointInside}
-use Rattle.volume_lines.specs.SlabTables.{HasSlabTables}
 use Rattle.road_points.specs.Shown.{HasWholeRemovals}
-use Rattle.road_points.proofs.FormsHold.{tables_of}
-use Rattle.milp_builder.specs.Boxes.{IsBoxOf}
 use Rattle.milp_builder.specs.BoxPrograms.{box_program}
-use Rattle.milp_builder.specs.FoundPlans.{IsPartRemoval, IsOtherVolume}
-use Rattle.milp_builder.specs.inside.SmallPoints.{HasSmallVolumes}
 use Rattle.milp_builder.specs.declared.boxes.BoxRange.{BoxRange}
 use Rattle.milp_builder.specs.declared.boxes.Split.{Split}
-use Rattle.milp_builder.specs.declared.boxes.Split.TheVariants.{Removal, Height}
-use Rattle.milp_builder.proofs.SmallVolumes.{small_volumes}
 use Rattle.tableau.specs.declared.exchange.Exchange.{Exchange}
 use Rattle.tableau.specs.declared.op.Op.{Op}
 use Rattle.simplex.specs.Ends.{IsDead, IsSpent, IsWide, IsOptimum, AreWithin}
 use Rattle.branch_bound.specs.Optima.{exchange_budget}
+use Rattle.branch_bound.specs.inside.Asking.{IsAsked}
 use Rattle.branch_bound.specs.inside.Grown.{dead_leaf, stopped_leaf, waiting_leaf, grown_of, IsGood}
 use Rattle.branch_bound.specs.inside.Proving.{IsProvedOn, IsGreatestOf}
 use Rattle.branch_bound.specs.inside.Searches.{cost_at, IsBest, IsSolved}
-use Rattle.branch_bound.specs.inside.Splitting.{IsInnerBreakpoint}
-use Rattle.branch_bound.specs.inside.Solving.{AreProving, IsStoppedLeaf, IsStopWith, AreDeadMults, IsEmptyLeaf, IsOptimumOf, IsAsked}
+use Rattle.branch_bound.specs.inside.Solving.{AreProving, IsStoppedLeaf, IsStopWith, AreDeadMults, IsEmptyLeaf, IsOptimumOf}
 use Rattle.branch_bound.specs.declared.notes.NodeNote.{NodeNote}
 use Rattle.branch_bound.specs.declared.notes.NodeNote.TheVariants.{Pivots, Wide, Limit}
 use Rattle.branch_bound.specs.declared.best.Best.{Best}
@@ -46,48 +30,8 @@ use Rattle.branch_bound.specs.declared.work.Proved.{Proved}
 use Rattle.branch_bound.specs.declared.work.Optimum.{Optimum}
 use Rattle.branch_bound.specs.declared.work.Waiting.{Waiting}
 use Rattle.branch_bound.specs.declared.work.Work.{Work}
-use Rattle.branch_bound.proofs.AskedSplits.{removal_asked, height_asked, inside_of}
 use Rattle.branch_bound.proofs.EmptyLemmas.{dead_leaf_is, limit_stop}
 use Rattle.branch_bound.proofs.SolvingLemmas.{own_proving, ray_proving, proved_is, leaf_from, stop_good, empty_good, solved_same, spent_stop, wide_stop}
-
--- ---- splits
-
-pub well_formed_of : (road : Road) → road_fault road ≡ None → IsWellFormed road
-well_formed_of road h = (IsAccepted-from_fault road h).well_formed
-
-pub small_of : (road : Road) (box : BoxRange) (den : ℤ) (point : List ℤ) → road_fault road ≡ None → IsBoxOf road box → IsScale den
-    → IsPoint (box_program road box) den point → HasSmallVolumes road point
-small_of road box den point h fits d p = small_volumes road (well_formed_of road h) box fits den d point p
-
-pub removal_is_asked : (road : Road) (box : BoxRange) (den : ℤ) (point : List ℤ) (k t : ℕ) → road_fault road ≡ None → IsBoxOf road box → pos 1 ≤ℤ den
-    → IsPoint (box_program road box) den point → IsPartRemoval road den point k t → IsAsked road box den point (Removal k t)
-removal_is_asked road box den point k t h fits d p r = removal_asked road (IsAccepted-from_fault road h) box fits den d point p k t r
-
-pub height_is_asked : (road : Road) (box : BoxRange) (den : ℤ) (point : List ℤ) (i : ℕ) (at : ℤ) → road_fault road ≡ None → IsBoxOf road box → IsScale den
-    → IsPoint (box_program road box) den point → IsOtherVolume road den point i
-    → IsInnerBreakpoint (section road i) (height_range box.heights i) at → IsAsked road box den point (Height i at)
-height_is_asked road box den point i at h fits d p v b = height_asked road (IsAccepted-from_fault road h) box fits den d.from_one point p i at v b
-
-pub tables_at : (road : Road) (den : ℤ) (point : List ℤ) (i : ℕ) → road_fault road ≡ None → IsOtherVolume road den point i → HasSlabTables (section road i)
-tables_at road den point i h v = tables_of road (well_formed_of road h) i v.number
-
-pub some_inside : (road : Road) (box : BoxRange) (den : ℤ) (point : List ℤ) (i : ℕ) → road_fault road ≡ None → IsBoxOf road box → pos 1 ≤ℤ den
-    → IsPoint (box_program road box) den point → IsOtherVolume road den point i
-    → (HasBreakpointInside (section road i) (height_range box.heights i) → ⊥) → ⊥
-some_inside road box den point i h fits d p v none = none (inside_of road (IsAccepted-from_fault road h) box fits den d point p i v)
-
-pub inside_at : (road : Road) (box : BoxRange) (den : ℤ) (point : List ℤ) (i : ℕ) → road_fault road ≡ None → IsBoxOf road box → IsScale den
-    → IsPoint (box_program road box) den point → IsOtherVolume road den point i → HasBreakpointInside (section road i) (height_range box.heights i)
-inside_at road box den point i h fits d p v = inside_of road (IsAccepted-from_fault road h) box fits den d.from_one point p i v
-
-pub section_number : (road : Road) (den : ℤ) (point : List ℤ) (i : ℕ) → IsOtherVolume road den point i → IsNumber i (section_count road)
-section_number road den point i v = v.number
-
-pub height_number : (road : Road) (box : BoxRange) (den : ℤ) (point : List ℤ) (i : ℕ) → IsBoxOf road box → IsOtherVolume road den point i → IsNumber i (length box.heights)
-height_number road box den point i fits v = subst (IsNumber i) (sym fits.heights_count) v.number
-
-pub range_at : (heights : List (ℤ × ℤ)) (i : ℕ) → IsNumber i (length heights) → get_or heights (i - 1) (pos 0, pos 0) ≡ height_range heights i
-range_at heights i n = sym (numbered_at (pos 0, pos 0) heights i n.from_one)
 
 pub den_scale : (den : ℤ) → pos 1 ≤ℤ den → (pos greatest_scale <ℤ den → ⊥) → IsScale den
 den_scale den one h = record {

@@ -27,6 +27,7 @@ use Rattle.branch_bound.specs.declared.finding.Found.{Found}
 use Rattle.branch_bound.proofs.SearchLemmas.{search_keys, cost_key}
 use Rattle.branch_bound.proofs.SearchedLaw.{searched}
 use Rattle.branch_bound.proofs.LeastLemmas.{least_of_leaves}
+use Rattle.branch_bound.proofs.LeavesLaw.{has_few_leaves}
 use Rattle.branch_bound.proofs.SpelledLaw.{spelled_found}
 use Rattle.branch_bound.proofs.ValidLaw.{valid_search}
 use Rattle.branch_bound.proofs.TextLengths.{cert_length}
@@ -70,6 +71,7 @@ found_is road finished found accepted h p c bound tree notes count =
       unbeaten = valid_unbeaten road a (certificate_of found.cert) spelled.has_text.bound valid;
       spelled = spelled;
       short = short_text (length (cert_text road (certificate_of found.cert))) (cert_length road a (certificate_of found.cert) spelled.has_text (omega (arith, ints, counted, within, most)));
+      few_leaves = has_few_leaves road a;
     }
 
 pub finished_keys : (road : Road) (finished : Finished) → IsFinishedSearch road finished → AreKeys (grown_of finished.search.work)

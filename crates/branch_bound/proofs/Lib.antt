@@ -11,6 +11,7 @@ pub mod SearchLemmas
 pub mod SearchedLaw
 pub mod LeastLemmas
 pub mod ProvingLemmas
+pub mod ComparingLemmas
 pub mod SplittingLemmas
 pub mod SolvingLemmas
 pub mod EmptyLemmas
@@ -23,6 +24,7 @@ pub mod FoundLaw
 pub mod LowestKeys
 pub mod BudgetLemmas
 pub mod NextLemmas
+pub mod AskingLemmas
 pub mod EndLemmas
 pub mod SpelledLaw
 pub mod TextLengths

@@ -12,7 +12,6 @@ use Rattle.plan_rules.specs.declared.plan.Plan.{Plan}
 use Rattle.plan_rules.specs.declared.verdict.Rule.{Rule}
 use Rattle.plan_rules.specs.Rules.{IsAdmissible, IsFirstBroken}
 use Rattle.plan_rules.specs.Costs.{cost_of}
-use Rattle.road_points.specs.Shown.{HasWholeRemovals, HasExactVolumes}
 use Rattle.milp_builder.specs.Boxes.{IsBoxOf}
 use Rattle.milp_builder.specs.BoxPrograms.{box_program}
 use Rattle.milp_builder.specs.FoundPlans.{IsPlanOfPoint, IsFoundPlan}
@@ -20,6 +19,7 @@ use Rattle.milp_builder.specs.declared.boxes.BoxRange.{BoxRange}
 use Rattle.milp_builder.proofs.BoxLaws.{plans_are_points}
 use Rattle.milp_builder.proofs.BoxLimits.{box_within_limits}
 use Rattle.branch_bound.specs.Endings.{IsPlanAt}
+use Rattle.branch_bound.specs.inside.Asking.{AsksForNothing}
 use Rattle.branch_bound.specs.inside.Solving.{IsPriced}
 use Rattle.branch_bound.specs.declared.best.Best.{Best}
 use Rattle.branch_bound.proofs.LowestKeys.{key_of_value}
@@ -30,11 +30,12 @@ pub not_broken : (road : Road) (plan : Plan) (rule : Rule) (stage place : ℕ) �
 not_broken road plan rule stage place h b = b.broken.not_kept (h.keeps rule stage place b.broken.is_place)
 
 -- a point that asks for no split has a plan
-pub some_plan : (road : Road) (box : BoxRange) (den : ℤ) (point : List ℤ) → HasWholeRemovals road den point → HasExactVolumes road den point
+pub some_plan : (road : Road) (box : BoxRange) (den : ℤ) (point : List ℤ) → IsScale den → AsksForNothing road den point
     → IsFoundPlan road box den point None → ⊥
-some_plan road box den point whole exact h =
+some_plan road box den point d asked h =
+    let exact = asked.exact d.at_most in
     ⊎_elim
-    (λ p. let r = p.1.1 in r.not_whole (whole.each p.0 p.1.0 r.block r.from_two r.at_most))
+    (λ p. let r = p.1.1 in r.not_whole (asked.whole.each p.0 p.1.0 r.block r.from_two r.at_most))
     (λ o. let v = o.1.0 in v.not_exact (exact.each o.0 v.number))
     h
 

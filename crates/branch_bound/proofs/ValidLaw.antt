@@ -1,7 +1,6 @@
 -- The certificate of a search is valid.
 use Rattle.std.proofs.Common.{◌≡◌, inl, inr, ℕ, Bool, true, false, Option, Some, None, List, refl, sym, ap, subst}
 use Rattle.std.specs.Prelude.{◌||◌}
-use Rattle.std.proofs.lemmas.Bool.{cases_Bool}
 use Rattle.numbers.specs.Fractions.{Fraction}
 use Rattle.road_types.specs.declared.road.Road.{Road}
 use Rattle.plan_rules.specs.declared.plan.Plan.{Plan}

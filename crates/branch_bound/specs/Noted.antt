@@ -61,7 +61,8 @@ IsShownLow road cost count program bound cause (Limit trail number) = (cause ≡
 IsShownLow road cost count program bound cause Dead = ⊥
 IsShownLow road cost count program bound cause (Fractional trail den point scale mults) = ⊥
 
--- the note of a split: an optimum that asks for it, or a stop of the simplex
+-- the note of a split: an optimum that asks for it, or a stop of the simplex; a closed or dead leaf's note and that of a leaf left open for
+-- want of nodes are no stop
 abbrev pub IsShownSplit : Road → Option Fraction → Program → Split → NodeNote → Type 0
 IsShownSplit road cost program split (Fractional trail den point scale mults) =
     IsOptimum program (exchange_budget road) trail den point scale mults × AsksFor road den point split
@@ -77,7 +78,8 @@ AreShown road cost count (fork_with split note first second) box =
     × AreShown road cost count first (first_part box split)
     × AreShown road cost count second (second_part box split)
 
--- the keys of the splits and of the leaves that were left open for want of nodes
+-- the keys of the splits and of the leaves that were left open for want of nodes: by the leaf's cause, which is that of its note where the
+-- notes are shown
 abbrev pub HaveKeys : Road → Noted → BoxRange → KeyTree → Type 0
 HaveKeys road (low_with scale mults (Some ForNodes) note) box keys =
     (key : ℤ × ℤ) × (IsKeyOf (box_program road box) note key × (keys ≡ open_leaf key))

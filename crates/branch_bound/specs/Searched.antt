@@ -13,8 +13,8 @@ use Rattle.branch_bound.specs.Endings.{HasPlanAt, HasOpenBelow, HasNoStops, HasN
 use Rattle.branch_bound.specs.declared.notes.NodeNote.{NodeNote}
 
 -- the tree has a note for each node, each shown, within the budget of nodes, and was grown best first; it is sound for the bound, the
--- least of its leaves'; the plan is admissible at its cost. Cost and bound are one, or a leaf was left open below the cost; they are one
--- where no simplex stopped and the nodes suffice for as many leaves as the road can have
+-- least of its leaves'; the plan is admissible at its cost. Cost and bound are one, or neither stands, or a leaf was left open below the
+-- cost; cost and bound are one, or neither stands, where no simplex stopped and the nodes suffice for as many leaves as the road can have
 pub record IsSearched (road : Road) (plan : Option Plan) (cost bound : Option Fraction) (tree : BoxTree) (count : ℕ) (notes : List NodeNote) : Type 0 where
   pub noted : Noted
   pub own_tree : tree ≡ tree_of noted

@@ -7,3 +7,5 @@ pub mod Splitting
 pub mod Solving
 pub mod Least
 pub mod Depths
+pub mod Comparing
+pub mod Asking

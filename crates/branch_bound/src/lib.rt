@@ -2,6 +2,7 @@
 //! node of the tree keeps a note that shows why it was closed, split or left open.
 #![tactic(auto)]
 
+mod asking;
 mod best;
 mod finding;
 mod growing;
@@ -10,6 +11,7 @@ mod proving;
 mod settling;
 mod solving;
 mod splitting;
+mod volumes;
 mod walks;
 mod work;
 

@@ -7,29 +7,23 @@ ghost use Rattle.numbers.specs.Fractions.{IsLowest, HasValue};
 ghost use Rattle.programs.specs.Points.{IsPoint};
 ghost use Rattle.safe_bounds.specs.Values.{AreMultipliers};
 ghost use Rattle.road_types.specs.Faults.{road_fault};
-ghost use Rattle.road_points.specs.Shown.{HasWholeRemovals, HasExactVolumes};
 ghost use Rattle.plan_rules.specs.Rules.{IsAdmissible};
 ghost use Rattle.plan_rules.specs.Costs.{cost_of};
-ghost use Rattle.road_types.specs.Numbered.{IsNumber};
-ghost use Rattle.road_types.specs.Ranges.{height_range};
-ghost use Rattle.road_types.specs.Road.{section, section_count};
-ghost use Rattle.volume_lines.specs.InnerBreakpoints.{HasBreakpointInside};
-ghost use Rattle.volume_lines.specs.SlabTables.{HasSlabTables};
 ghost use Rattle.milp_builder.specs.Boxes.{IsBoxOf};
-ghost use Rattle.branch_bound.specs.inside.Splitting.{IsInnerBreakpoint};
 ghost use Rattle.milp_builder.specs.BoxPrograms.{box_program};
 ghost use Rattle.best_first.specs.Keys.{IsKey};
 ghost use Rattle.simplex.specs.Ends.{IsEnd, IsDead, IsOptimum, HasNumbersWithin, AreWithin};
 ghost use Rattle.branch_bound.specs.Optima.{exchange_budget};
+ghost use Rattle.branch_bound.specs.inside.Asking.{AsksForNothing};
 ghost use Rattle.branch_bound.specs.inside.Grown.{grown_of, dead_leaf, whole_leaf, waiting_leaf, stopped_leaf, IsCostKey};
 ghost use Rattle.branch_bound.specs.inside.Searches.{cost_at, IsBest, IsSolved};
-ghost use Rattle.branch_bound.specs.inside.Solving.{AreProving, IsStoppedLeaf, IsEmptyLeaf, AreDeadMults, IsOptimumOf, IsAsked, IsWholeLeaf, IsCheaper, IsPriced};
+ghost use Rattle.branch_bound.specs.inside.Solving.{AreProving, IsStoppedLeaf, IsEmptyLeaf, AreDeadMults, IsOptimumOf, IsWholeLeaf, IsCheaper, IsPriced};
 ghost use Rattle.branch_bound.specs.declared.notes.NodeNote.TheVariants.{Limit};
 
+use crate::asking::asked_split;
 use crate::best::{Best, Solved};
 use crate::notes::NodeNote;
 use crate::proving::{greatest_magnitude, narrowed, past_limit, prove, value_on, written};
-use crate::splitting::{inner_breakpoint, part_removal, worst_section};
 use crate::work::{Optimum, Proved, Waiting, Work};
 use algebra::GREATEST_SCALE;
 use best_first::is_at_most;
@@ -267,17 +261,13 @@ fn leaf_of_optimum(
     requires best { IsBest road.now best }
     ensures { IfOk result (λ solved. IsSolved road.now best range solved) }
 {
-    if let Some(split) = removal_split(road, &range, optimum.den, optimum.point.as_slice()) {
+    if let Some(split) = asked_split(road, &range, optimum.den, optimum.point.as_slice()) {
         let leaf = waiting_leaf(range, split, optimum, proved);
         return Ok(Solved { leaf, best });
     }
     if optimum.den > GREATEST_SCALE {
         let den = optimum.den;
         let leaf = limit_leaf(optimum, proved, den);
-        return Ok(Solved { leaf, best });
-    }
-    if let Some(split) = height_split(road, &range, optimum.den, optimum.point.as_slice()) {
-        let leaf = waiting_leaf(range, split, optimum, proved);
         return Ok(Solved { leaf, best });
     }
     let found = plan_found(alloc, road, &range, optimum.den, optimum.point.as_slice())?;
@@ -325,63 +315,6 @@ fn limit_leaf(optimum: Optimum, proved: Proved, value: i128) -> Work
     }
 }
 
-/// The split of the first removal that is neither done nor undone.
-#[tactic(auto, using(crate::proofs::EndLemmas::well_formed_of, crate::proofs::EndLemmas::removal_is_asked))]
-fn removal_split(road: &Road, range: &BoxRange, den: i128, point: &[i128]) -> Option<Split>
-    requires accepted { road_fault road.now ≡ None }
-    requires fits { IsBoxOf road.now range.now }
-    requires den { pos 1 ≤ℤ den }
-    requires point { IsPoint (box_program road.now range.now) den point.now }
-    ensures { MatchOption result (HasWholeRemovals road.now den point.now) (λ split. IsAsked road.now range.now den point.now split) }
-{
-    match part_removal(road, den, point) {
-        Some((block, stage)) => Some(Split::Removal { block, stage }),
-        None => None,
-    }
-}
-
-/// The split of the section whose volume is furthest from that of its offset: at the ground where that lies strictly inside its
-/// range of offsets, and else at the breakpoint inside that is nearest to it.
-#[tactic(auto, using(crate::proofs::EndLemmas::well_formed_of, crate::proofs::EndLemmas::small_of, crate::proofs::EndLemmas::height_is_asked, crate::proofs::EndLemmas::tables_at, crate::proofs::EndLemmas::inside_at, crate::proofs::EndLemmas::section_number, crate::proofs::EndLemmas::height_number))]
-fn height_split(road: &Road, range: &BoxRange, den: i128, point: &[i128]) -> Option<Split>
-    requires accepted { road_fault road.now ≡ None }
-    requires fits { IsBoxOf road.now range.now }
-    requires den { IsScale den }
-    requires point { IsPoint (box_program road.now range.now) den point.now }
-    ensures { MatchOption result (HasExactVolumes road.now den point.now) (λ split. IsAsked road.now range.now den point.now split) }
-{
-    match worst_section(road, den, point) {
-        Some(section) => Some(Split::Height {
-            section,
-            at: breakpoint_at(road, range, section),
-        }),
-        None => None,
-    }
-}
-
-/// The breakpoint at which a section with one strictly inside its range is split.
-fn breakpoint_at(road: &Road, range: &BoxRange, number: usize) -> i64
-    requires number { IsNumber number (section_count road.now) }
-    requires ranges { IsNumber number (length range.now.heights) }
-    requires tables { HasSlabTables (section road.now number) }
-    requires inside { HasBreakpointInside (section road.now number) (height_range range.now.heights number) }
-    ensures { IsInnerBreakpoint (section road.now number) (height_range range.now.heights number) result }
-{
-    match inner_breakpoint(road.section(number), height_range(range, number)) {
-        Some(at) => at,
-        None => unreachable!(),
-    }
-}
-
-/// The range of offsets of a section.
-#[tactic(auto, using(crate::proofs::EndLemmas::range_at))]
-fn height_range(range: &BoxRange, number: usize) -> (i64, i64)
-    requires { IsNumber number (length range.now.heights) }
-    ensures { result ≡ height_range range.now.heights number }
-{
-    range.heights.as_slice()[number - 1]
-}
-
 /// The plan of a point that asks for no split, with its cost.
 #[tactic(auto, using(crate::proofs::PricedLemmas::priced_plan, crate::proofs::PricedLemmas::some_plan))]
 fn plan_found(
@@ -395,8 +328,7 @@ fn plan_found(
     requires fits { IsBoxOf road.now range.now }
     requires den { IsScale den }
     requires point { IsPoint (box_program road.now range.now) den point.now }
-    requires whole { HasWholeRemovals road.now den point.now }
-    requires exact { HasExactVolumes road.now den point.now }
+    requires asked { AsksForNothing road.now den point.now }
     ensures { IfOk result (λ found. IsPriced road.now (box_program road.now range.now) den point.now found) }
 {
     match plan_of(alloc, road, range, den, point)? {

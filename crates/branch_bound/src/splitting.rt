@@ -1,7 +1,6 @@
 // Which split a point asks for.
 ghost use Rattle.std.specs.Prelude.{◌≡◌, ◌↔◌, ◌⊎◌, IsTrue, MatchOption, FitsSigned, length, neg_ℤ, ◌+◌, ◌<◌, ◌-ℤ◌, ◌<ℤ◌, unsigned_abs};
 ghost use Rattle.std.specs.Int.{w64, w128};
-ghost use Rattle.algebra.specs.Scale.{IsScale};
 ghost use Rattle.road_types.specs.Numbered.{IsNumber};
 ghost use Rattle.road_types.specs.WellFormed.{IsWellFormed, IsSlabTable};
 ghost use Rattle.road_types.specs.Road.{section, section_count, block_count};
@@ -12,11 +11,13 @@ ghost use Rattle.volume_lines.specs.InnerBreakpoints.{HasBreakpointInside};
 ghost use Rattle.volume_lines.specs.SlabTables.{HasSlabTables};
 ghost use Rattle.road_points.specs.Shown.{shown, IsWholeAt, HasWholeRemovals, moved_volume, IsExactAt, HasExactVolumes};
 ghost use Rattle.milp_builder.specs.FoundPlans.{IsPartRemoval, IsOtherVolume};
-ghost use Rattle.milp_builder.specs.inside.SmallPoints.{HasSmallVolumes, IsOpenedWhole};
+ghost use Rattle.milp_builder.specs.inside.SmallPoints.{IsOpenedWhole};
+ghost use Rattle.branch_bound.specs.inside.Comparing.{IsComparable, HasComparableVolumes};
 ghost use Rattle.branch_bound.specs.inside.Splitting.{IsWorstOf, IsInnerBreakpoint, IsInnerThickness, HasNoInnerThickness};
 
+use crate::volumes::net_volume;
 use algebra::{minus, plus};
-use road_types::{Column, Road, Section, Slab, column_of, net_volume};
+use road_types::{Column, Road, Section, Slab, column_of};
 
 /// The point's number in the column of a kind; 0 where the road has no such column.
 fn shown(road: &Road, point: &[i128], kind: Column) -> i128
@@ -85,8 +86,8 @@ pub struct Worst {
 pub(crate) fn worst_section(road: &Road, den: i128, point: &[i128]) -> Option<usize>
     requires well_formed { IsWellFormed road.now }
     requires columns { length point.now ≡ length (columns_of road.now) }
-    requires den { IsScale den }
-    requires small { HasSmallVolumes road.now point.now }
+    requires den { IsComparable den }
+    requires small { HasComparableVolumes road.now point.now }
     ensures { MatchOption result (HasExactVolumes road.now den point.now) (λ i. IsOtherVolume road.now den point.now i) }
 {
     let mut worst = Worst {
@@ -107,8 +108,8 @@ pub(crate) fn worst_section(road: &Road, den: i128, point: &[i128]) -> Option<us
 fn worse_of(road: &Road, den: i128, point: &[i128], worst: Worst, before: usize) -> Worst
     requires well_formed { IsWellFormed road.now }
     requires columns { length point.now ≡ length (columns_of road.now) }
-    requires den { IsScale den }
-    requires small { HasSmallVolumes road.now point.now }
+    requires den { IsComparable den }
+    requires small { HasComparableVolumes road.now point.now }
     requires before { before < section_count road.now }
     requires worst { IsWorstOf road.now den point.now before worst }
     ensures { IsWorstOf road.now den point.now (before + 1) result }
@@ -127,8 +128,8 @@ fn worse_of(road: &Road, den: i128, point: &[i128], worst: Worst, before: usize)
 fn volume_error(road: &Road, den: i128, point: &[i128], number: usize) -> u128
     requires well_formed { IsWellFormed road.now }
     requires columns { length point.now ≡ length (columns_of road.now) }
-    requires den { IsScale den }
-    requires small { HasSmallVolumes road.now point.now }
+    requires den { IsComparable den }
+    requires small { HasComparableVolumes road.now point.now }
     requires section { IsNumber number (section_count road.now) }
     ensures { result ≡ unsigned_abs (moved_volume road.now point.now number
         -ℤ net_volume (section road.now number).cut (section road.now number).fill (shown road.now point.now (Offset number)) den) }
@@ -150,8 +151,8 @@ fn distance(a: i128, b: i128) -> u128
 fn volume_of_offset(road: &Road, den: i128, point: &[i128], number: usize) -> i128
     requires well_formed { IsWellFormed road.now }
     requires columns { length point.now ≡ length (columns_of road.now) }
-    requires den { IsScale den }
-    requires small { HasSmallVolumes road.now point.now }
+    requires den { IsComparable den }
+    requires small { HasComparableVolumes road.now point.now }
     requires section { IsNumber number (section_count road.now) }
     ensures { result ≡ net_volume (section road.now number).cut (section road.now number).fill
         (shown road.now point.now (Offset number)) den }
@@ -167,7 +168,7 @@ fn volume_of_offset(road: &Road, den: i128, point: &[i128], number: usize) -> i1
 fn moved_volume(road: &Road, point: &[i128], section: usize) -> i128
     requires well_formed { IsWellFormed road.now }
     requires columns { length point.now ≡ length (columns_of road.now) }
-    requires small { HasSmallVolumes road.now point.now }
+    requires small { HasComparableVolumes road.now point.now }
     ensures { result ≡ moved_volume road.now point.now section }
 {
     let mut total = 0;
@@ -181,7 +182,7 @@ fn moved_volume(road: &Road, point: &[i128], section: usize) -> i128
 fn moved_in(road: &Road, point: &[i128], section: usize, stage: usize) -> i128
     requires well_formed { IsWellFormed road.now }
     requires columns { length point.now ≡ length (columns_of road.now) }
-    requires small { HasSmallVolumes road.now point.now }
+    requires small { HasComparableVolumes road.now point.now }
     ensures { result ≡ shown road.now point.now (Fill section stage) -ℤ shown road.now point.now (Cut section stage) }
 {
     minus(

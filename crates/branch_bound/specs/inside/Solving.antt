@@ -12,12 +12,10 @@ use Rattle.tableau.specs.declared.exchange.Exchange.{Exchange}
 use Rattle.road_types.specs.declared.road.Road.{Road}
 use Rattle.milp_builder.specs.BoxPrograms.{box_program}
 use Rattle.milp_builder.specs.declared.boxes.BoxRange.{BoxRange}
-use Rattle.milp_builder.specs.declared.boxes.Split.{Split}
-use Rattle.milp_builder.specs.Parts.{IsSplitOf}
 use Rattle.tableau.specs.Tableaux.{Tableau}
 use Rattle.tableau.specs.OwnNumbers.{scale_of, multipliers_of}
 use Rattle.simplex.specs.Ends.{IsOptimum}
-use Rattle.branch_bound.specs.Optima.{exchange_budget, AsksFor}
+use Rattle.branch_bound.specs.Optima.{exchange_budget}
 use Rattle.branch_bound.specs.Stops.{IsStop, HasPlanWithin}
 use Rattle.branch_bound.specs.inside.Better.{IsNoDearer}
 use Rattle.branch_bound.specs.inside.Grown.{dead_leaf, whole_leaf, stopped_leaf, grown_of, IsGrownLeaf, IsGood}
@@ -59,11 +57,6 @@ pub record IsOptimumOf (road : Road) (box : BoxRange) (optimum : Optimum) (prove
   pub own_optimum : IsOptimum (box_program road box) (exchange_budget road) optimum.trail optimum.den optimum.point optimum.scale optimum.mults
   pub proving : AreProving (box_program road box) optimum.scale optimum.mults
   pub proved_on : IsProvedOn (box_program road box) optimum.scale optimum.mults proved
-
--- a split for which the point asks, and which can be made
-pub record IsAsked (road : Road) (box : BoxRange) (den : ℤ) (point : List ℤ) (split : Split) : Type 0 where
-  pub splits : IsSplitOf road box split
-  pub asks : AsksFor road den point split
 
 -- the cheaper of two plans
 pub record IsCheaper (found : Best) (old : Option Best) (best : Best) : Type 0 where

@@ -1,10 +1,11 @@
 use Rattle.std.proofs.Common.{rules, FitsSigned, refl, subst, arith, List}
-use Rattle.std.specs.Prelude.{ℤ}
 use Rattle.std.specs.Int.{w128}
 use Rattle.std.proofs.lemmas.Int.{ints, to_z-of_z}
-use Rattle.road_points.specs.Shown.{HasWholeRemovals, HasExactVolumes}
+use Rattle.std.specs.Prelude.{ℤ}
+use Rattle.algebra.specs.Scale.{IsScale}
 use Rattle.milp_builder.specs.BoxPrograms.{box_program}
-use Rattle.branch_bound.specs.inside.Solving.{IsAsked, IsPriced}
+use Rattle.branch_bound.specs.inside.Asking.{IsAsked, AsksForNothing}
+use Rattle.branch_bound.specs.inside.Solving.{IsPriced}
 use Rattle.branch_bound.proofs.EndLemmas.{den_scale, waiting_solved, denominator_solved}
 use Rattle.branch_bound.proofs.WholeLemmas.{whole_solved}
 use Rattle.branch_bound.proofs.solving.leaf_of_optimum.Goals as goal
@@ -19,25 +20,11 @@ returns-in-Some c =
 pub returns-then-optimum-gt-GREATEST_SCALE : goal.returns-then-optimum-gt-GREATEST_SCALE
 returns-then-optimum-gt-GREATEST_SCALE c =
     let den : FitsSigned w128 c.args.optimum.den = search rules in
-    let whole : HasWholeRemovals c.args.road.now c.args.optimum.den c.as_slice.result.now = simp to_z-of_z at c.in_default.ensures in
+    let none : AsksForNothing c.args.road.now c.args.optimum.den c.as_slice.result.now = simp to_z-of_z at c.in_default.ensures in
+    let own = subst (λ (point : List ℤ). AsksForNothing c.args.road.now c.args.optimum.den point) c.as_slice.ensures none in
     let past = simp to_z-of_z at c.if-optimum-gt-GREATEST_SCALE.true in
     denominator_solved c.args.road.now c.args.best c.args.range c.args.optimum c.args.proved _ c.requires.best c.requires.optimum refl
-    (subst (λ (point : List ℤ). HasWholeRemovals c.args.road.now c.args.optimum.den point) c.as_slice.ensures whole) (omega (arith, ints, past))
-    (simp to_z-of_z at c.limit_leaf-leaf.ensures)
-
-pub height_split-requires-clause-den : goal.height_split-requires-clause-den
-height_split-requires-clause-den c =
-    let den : FitsSigned w128 c.args.optimum.den = search rules in
-    let small = simp to_z-of_z at c.if-optimum-gt-GREATEST_SCALE.false in
-    simp to_z-of_z (den_scale c.args.optimum.den c.requires.optimum.own_optimum.den_from_one (λ past. omega (arith, ints, small, past)))
-
-pub returns-in-Some-height_split : goal.returns-in-Some-height_split
-returns-in-Some-height_split c =
-    let den : FitsSigned w128 c.args.optimum.den = search rules in
-    let asked : IsAsked c.args.road.now c.args.range c.args.optimum.den c.as_slice-2.result.now c.in-Some-height_split.split = simp to_z-of_z at c.in-Some-height_split.ensures in
-    waiting_solved c.args.road.now c.args.best c.args.range c.args.optimum c.args.proved _ c.requires.best c.requires.optimum refl c.in-Some-height_split.split _
-    (subst (λ (point : List ℤ). IsAsked c.args.road.now c.args.range c.args.optimum.den point c.in-Some-height_split.split) c.as_slice-2.ensures asked) refl
-    c.waiting_leaf-leaf-in-Some-height_split.ensures
+    own.whole (omega (arith, ints, past)) (simp to_z-of_z at c.limit_leaf-leaf.ensures)
 
 pub plan_found-requires-clause-den : goal.plan_found-requires-clause-den
 plan_found-requires-clause-den c =
@@ -50,11 +37,12 @@ returns c =
     let den : FitsSigned w128 c.args.optimum.den = search rules in
     let road = c.args.road.now in
     let program = box_program road c.args.range in
-    let whole : HasWholeRemovals road c.args.optimum.den c.as_slice.result.now = simp to_z-of_z at c.in_default.ensures in
-    let exact : HasExactVolumes road c.args.optimum.den c.as_slice-2.result.now = simp to_z-of_z at c.in_default-height_split.ensures in
-    let priced : IsPriced road program c.args.optimum.den c.as_slice-3.result.now c.in_ok-found.found = simp to_z-of_z at c.in_ok-found.ensures in
+    let none : AsksForNothing road c.args.optimum.den c.as_slice.result.now = simp to_z-of_z at c.in_default.ensures in
+    let own = subst (λ (point : List ℤ). AsksForNothing road c.args.optimum.den point) c.as_slice.ensures none in
+    let small = simp to_z-of_z at c.if-optimum-gt-GREATEST_SCALE.false in
+    let scale : IsScale c.args.optimum.den = den_scale c.args.optimum.den c.requires.optimum.own_optimum.den_from_one (λ past. omega (arith, ints, small, past)) in
+    let priced : IsPriced road program c.args.optimum.den c.as_slice-2.result.now c.in_ok-found.found = simp to_z-of_z at c.in_ok-found.ensures in
     whole_solved road c.args.range c.args.optimum c.args.proved c.in_ok-found.found c.args.best _ c.requires.optimum
-    (subst (λ (point : List ℤ). HasWholeRemovals road c.args.optimum.den point) c.as_slice.ensures whole)
-    (subst (λ (point : List ℤ). HasExactVolumes road c.args.optimum.den point) c.as_slice-2.ensures exact)
-    (subst (λ (point : List ℤ). IsPriced road program c.args.optimum.den point c.in_ok-found.found) c.as_slice-3.ensures priced)
+    own.whole (own.exact scale.at_most)
+    (subst (λ (point : List ℤ). IsPriced road program c.args.optimum.den point c.in_ok-found.found) c.as_slice-2.ensures priced)
     c.requires.best c.whole_leaf.ensures

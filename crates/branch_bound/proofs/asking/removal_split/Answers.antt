@@ -2,8 +2,8 @@ use Rattle.std.proofs.Common.{FitsSigned}
 use Rattle.std.specs.Int.{w128}
 use Rattle.std.proofs.lemmas.Int.{to_z-of_z}
 use Rattle.milp_builder.specs.FoundPlans.{IsPartRemoval}
-use Rattle.branch_bound.proofs.EndLemmas.{removal_is_asked}
-use Rattle.branch_bound.proofs.solving.removal_split.Goals as goal
+use Rattle.branch_bound.proofs.AskingLemmas.{removal_is_asked}
+use Rattle.branch_bound.proofs.asking.removal_split.Goals as goal
 
 pub returns-in-Some : goal.returns-in-Some
 returns-in-Some c =
