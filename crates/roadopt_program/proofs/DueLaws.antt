@@ -1,4 +1,4 @@
--- Told files leave one due end: its status, its output and its file. And what kind of end is due.
+-- Told files leave one due end beside what a search found: its status, its output and its file. And what kind of end is due.
 use Rattle.std.specs.Prelude.{ℕ, ◌<◌, zero, suc, ◌-◌, IsTrue, Option, Some, None, Result, Ok, Err, List, [], ◌∷◌, ℤ}
 use Rattle.std.proofs.Common.{◌≡◌, get_or, arith, sym, refl, ap, ap₂, subst, ◌∙◌}
 use Rattle.outside.specs.Files.{Files}
@@ -15,21 +15,27 @@ use Rattle.plan_text.specs.Misfits.{refused_line}
 use Rattle.plan_text.proofs.AnswerLaws.{plan_of_text-exact}
 use Rattle.numbers.proofs.FractionsLemmas.{same_value_fraction}
 use Rattle.roadopt_program.specs.declared.forms.Verb.{Verb}
-use Rattle.roadopt_program.specs.declared.forms.Verb.TheVariants.{Judge, Check, Replay}
+use Rattle.roadopt_program.specs.declared.forms.Verb.TheVariants.{Judge, Check, Replay, Solve}
 use Rattle.roadopt_program.specs.declared.status.Status.{Status}
-use Rattle.roadopt_program.specs.declared.status.Status.TheVariants.{Done, PlanBroken, PlanRefused, CertRefused, Missing}
-use Rattle.roadopt_program.specs.Due.{◌>>=◌, keeps_rules, is_table_there, road_due, FollowsRoad, Follows, IsDue, Due}
-use Rattle.roadopt_program.specs.Ends.{End, missing_end}
-use Rattle.roadopt_program.specs.Forms.{Command, command_of}
-use Rattle.roadopt_program.specs.Inputs.{Given, IsGivenIfNamed, table_named, road_limit}
-use Rattle.roadopt_program.specs.Judging.{PrintsFraction, PrintsFirstBroken, PrintsRefusedLine, OfPlan, JudgesText, OfPlanBytes}
-use Rattle.roadopt_program.specs.Printed.{plan_refused_line, broken_line, admissible_line, cert_refused_line, valid_line}
-use Rattle.roadopt_program.specs.CertChecking.{PrintsValid, PrintsRefusal, OfCertBytes}
-use Rattle.roadopt_program.specs.Replaying.{PrintsReport, OfReplayed}
+use Rattle.roadopt_program.specs.declared.status.Status.TheVariants.{Done, Gap, RoadRefused, PlanBroken, PlanRefused, CertRefused, Missing}
+use Rattle.roadopt_program.specs.Due.{◌>>=◌, keeps_rules, is_table_there, road_due, FollowsRoad, Follows, IsDueOnRoad, IsDue, Due}
+use Rattle.roadopt_program.specs.Ends.{End, said, missing_end}
+use Rattle.roadopt_program.specs.Forms.{RoadCommand, Command, on_road, trial, command_of}
+use Rattle.roadopt_program.specs.Inputs.{Given, IsGivenWithin, IsGivenIfNamed, table_named, road_limit, other_limit}
+use Rattle.roadopt_program.specs.Judging.{PrintsFraction, PrintsFirstBroken, PrintsRefusedLine, OfPlan, JudgesText, OfPlanBytes, Judges}
+use Rattle.roadopt_program.specs.Printed.{plan_refused_line, broken_line, admissible_line, cert_refused_line, valid_line, trial_line, road_refused_line}
+use Rattle.roadopt_program.specs.CertChecking.{PrintsValid, PrintsRefusal, OfCertBytes, Checks}
+use Rattle.roadopt_program.specs.Replaying.{PrintsReport, OfReplayed, Replays}
+use Rattle.roadopt_program.specs.Solving.{HasStatus, SolvesBy}
+use Rattle.roadopt_program.specs.Trying.{TriesBy}
 use Rattle.report.specs.Lines.{AreLines}
 use Rattle.report.proofs.OneReport.{one_text}
 use Rattle.cert_report.specs.CertReport.{cert_lines}
 use Rattle.road_types.specs.Accepted.{IsAccepted}
+use Rattle.numbers.specs.Fractions.{Fraction}
+use Rattle.cert_text.specs.Certs.{certificate_of}
+use Rattle.trial_roads.specs.TrialRoads.{trial_road}
+use Rattle.branch_bound.specs.declared.finding.Found.{Found}
 use Rattle.cert_text.specs.inside.CertReading.{cert_of_text}
 use Rattle.cert_checker.specs.Refusals.{refused}
 use Rattle.cert_text.specs.Validity.{stated_cost}
@@ -39,7 +45,7 @@ use Rattle.cert_text.specs.CertText.{Certificate, IsCertText}
 use Rattle.cert_text.proofs.CertLaws.{cert_of_text-exact}
 use Rattle.road_types.proofs.AcceptedRoad.{IsAccepted-from_fault}
 use Rattle.roadopt_program.specs.Runs.{HasOneEnd}
-use Rattle.roadopt_program.specs.Statuses.{exit_status}
+use Rattle.roadopt_program.specs.Statuses.{exit_status, is_answer}
 use Rattle.roadopt_program.proofs.StatusLemmas.{may_be_due}
 
 same_ok : {A E : Type 0} (r : Result A E) (x y : A) → r ≡ Ok x → r ≡ Ok y → x ≡ y
@@ -134,7 +140,7 @@ same_of_bytes road bytes _ _ l k a b = same_of_text road bytes _ _ l k a b
 
 -- ---- the lines of a check are one
 
-same_cert : (road : Road) (acc : IsAccepted road) (bytes : List ℕ) (a b : Certificate) → IsCertText road bytes a → IsCertText road bytes b → a ≡ b
+pub same_cert : (road : Road) (acc : IsAccepted road) (bytes : List ℕ) (a b : Certificate) → IsCertText road bytes a → IsCertText road bytes b → a ≡ b
 same_cert road acc bytes a b p q = same_ok (cert_of_text road bytes) a b (cert_of_text-exact road acc.rows bytes a p) (cert_of_text-exact road acc.rows bytes b q)
 
 same_valid_line : (road : Road) (acc : IsAccepted road) (bytes l k : List ℕ) → PrintsValid road bytes l → PrintsValid road bytes k → l ≡ k
@@ -190,128 +196,204 @@ same_if_named : (files : Files) (name : Option (List ℕ)) (most : ℕ) (a b : O
 same_if_named files None most a b p q = p ∙ sym q
 same_if_named files (Some name) most a b p q = p ∙ sym q
 
-same_on_road : (verb : Verb) (road : Road) (other : Option (List ℕ)) (a b : End) → FollowsRoad verb road other a → FollowsRoad verb road other b → a ≡ b
-same_on_road Judge road None a b p q = p ∙ sym q
-same_on_road Judge road (Some bytes) a b p q =
+-- ---- the end of a search is one
+
+same_status : (s t : Status) (cost bound : Option Fraction) → HasStatus s cost bound → HasStatus t cost bound → s ≡ t
+same_status Done Done cost bound p q = refl
+same_status Gap Gap cost bound p q = refl
+same_status Done Gap cost bound p q = absurd (q p)
+same_status Gap Done cost bound p q = absurd (p q)
+same_status Done _ cost bound p q = absurd q
+same_status Gap _ cost bound p q = absurd q
+same_status _ t cost bound p q = absurd p
+
+same_solved : (road : Road) (name : List ℕ) (found : Found) (a b : End) → SolvesBy road name found a → SolvesBy road name found b → a ≡ b
+same_solved road name found a b p q =
+    same_end a b (same_status a.status b.status found.cert.cost found.cert.bound p.status q.status)
+    (one_text (cert_lines road (certificate_of found.cert)) a.output b.output p.report q.report)
+    (p.file ∙ sym q.file)
+
+same_tried : (number : ℕ) (found : Found) (a b : End) → TriesBy number found a → TriesBy number found b → a ≡ b
+same_tried number found a b p q =
+    let status = same_status a.status b.status found.cert.cost found.cert.bound p.status q.status in
+    same_end a b status
+    (p.line ∙ ap (λ s. trial_line number (trial_road number) found.count found.cert.cost found.cert.bound s) status ∙ sym q.line)
+    (p.no_file ∙ sym q.no_file)
+
+same_judged : (road : Road) (other : Option (List ℕ)) (a b : End) → Judges road other a → Judges road other b → a ≡ b
+same_judged road None a b p q = p ∙ sym q
+same_judged road (Some bytes) a b p q =
     let both = same_of_bytes road bytes a.status b.status a.output b.output p.0 q.0 in
     same_end a b both.0 both.1 (p.1 ∙ sym q.1)
-same_on_road Check road None a b p q = p ∙ sym q
-same_on_road Check road (Some bytes) a b p q =
+
+same_checked : (road : Road) (other : Option (List ℕ)) (a b : End) → Checks road other a → Checks road other b → a ≡ b
+same_checked road None a b p q = p ∙ sym q
+same_checked road (Some bytes) a b p q =
     let both = same_of_cert road (IsAccepted-from_fault road p.0) bytes a.status b.status a.output b.output p.1.0 q.1.0 in
     same_end a b both.0 both.1 (p.1.1 ∙ sym q.1.1)
-same_on_road Replay road None a b p q = p ∙ sym q
-same_on_road Replay road (Some bytes) a b p q =
+
+same_replay : (road : Road) (other : Option (List ℕ)) (a b : End) → Replays road other a → Replays road other b → a ≡ b
+same_replay road None a b p q = p ∙ sym q
+same_replay road (Some bytes) a b p q =
     let both = same_replayed road (IsAccepted-from_fault road p.0) bytes a.status b.status a.output b.output p.1.0 q.1.0 in
     same_end a b both.0 both.1 (p.1.1 ∙ sym q.1.1)
 
-same_after : (verb : Verb) (made : Result Road End) (other : Option (List ℕ)) (a b : End) → Follows verb made other a → Follows verb made other b → a ≡ b
-same_after verb (Err early) other a b p q = p ∙ sym q
-same_after verb (Ok road) other a b p q = same_on_road verb road other a b p q
+same_on_road : (verb : Verb) (road : Road) (name : List ℕ) (other : Option (List ℕ)) (found : Option Found) (a b : End)
+    → FollowsRoad verb road name other found a → FollowsRoad verb road name other found b → a ≡ b
+same_on_road Judge road name other found a b p q = same_judged road other a b p.1 q.1
+same_on_road Check road name other found a b p q = same_checked road other a b p.1 q.1
+same_on_road Replay road name other found a b p q = same_replay road other a b p.1 q.1
+same_on_road Solve road name other None a b p q = absurd p
+same_on_road Solve road name other (Some found) a b p q = same_solved road name found a b p q
 
-same_due : (files : Files) (command : Command) (a b : End) → IsDue (Some files) command a → IsDue (Some files) command b → a ≡ b
-same_due files command a b p q =
+same_after : (verb : Verb) (made : Result Road End) (name : List ℕ) (other : Option (List ℕ)) (found : Option Found) (a b : End)
+    → Follows verb made name other found a → Follows verb made name other found b → a ≡ b
+same_after verb (Err early) name other found a b p q = p.1 ∙ sym q.1
+same_after verb (Ok road) name other found a b p q = same_on_road verb road name other found a b p q
+
+same_within : (files : Files) (name : List ℕ) (most : Option ℕ) (a b : Option (List ℕ)) → IsGivenWithin (Some files) name most a → IsGivenWithin (Some files) name most b → a ≡ b
+same_within files name None a b p q = p ∙ sym q
+same_within files name (Some most) a b p q = p ∙ sym q
+
+-- what told files give is one
+given_is : (files : Files) (command : RoadCommand) (found other : Option Found) (a b : End) (p : IsDueOnRoad (Some files) command found a) (q : IsDueOnRoad (Some files) command other b) → q.given ≡ p.given
+given_is files command found other a b p q =
     let road : q.given.road ≡ p.given.road = q.are_given.road ∙ sym p.are_given.road in
     let named = subst (λ (r : Option (List ℕ)). IsGivenIfNamed (Some files) (table_named r) road_limit q.given.table) road q.are_given.table in
     let table = same_if_named files (table_named p.given.road) road_limit q.given.table p.given.table named p.are_given.table in
-    let same : q.given ≡ p.given = same_given q.given p.given road table (q.are_given.other ∙ sym p.are_given.other) in
-    same_after command.verb (road_due p.given.road p.given.table) p.given.other a b p.follows
-    (subst (λ (g : Given). Follows command.verb (road_due g.road g.table) g.other b) same q.follows)
+    same_given q.given p.given road table (same_within files command.other (other_limit command.verb) q.given.other p.given.other q.are_given.other p.are_given.other)
 
-same_told : (files : Files) (words : List (List ℕ)) (a b : End) → Due (Some files) words a → Due (Some files) words b → a ≡ b
-same_told files words a b p q =
+same_due : (files : Files) (command : RoadCommand) (found : Option Found) (a b : End) → IsDueOnRoad (Some files) command found a → IsDueOnRoad (Some files) command found b → a ≡ b
+same_due files command found a b p q =
+    same_after command.verb (road_due p.given.road p.given.table) command.other p.given.other found a b p.follows
+    (subst (λ (g : Given). Follows command.verb (road_due g.road g.table) command.other g.other found b) (given_is files command found found a b p q) q.follows)
+
+same_told_for : (files : Files) (command : Command) (found : Option Found) (a b : End) → IsDue (Some files) command found a → IsDue (Some files) command found b → a ≡ b
+same_told_for files (on_road command) found a b p q = same_due files command found a b p q
+same_told_for files (trial number) None a b p q = absurd p
+same_told_for files (trial number) (Some found) a b p q = same_tried number found a b p q
+
+same_told : (files : Files) (words : List (List ℕ)) (found : Option Found) (a b : End) → Due (Some files) words found a → Due (Some files) words found b → a ≡ b
+same_told files words found a b p q =
     let same : q.command ≡ p.command = same_some (command_of words) q.command p.command q.form p.form in
-    same_due files p.command a b p.is_due (subst (λ (c : Command). IsDue (Some files) c b) same q.is_due)
+    same_told_for files p.command found a b p.is_due (subst (λ (c : Command). IsDue (Some files) c found b) same q.is_due)
 
--- for told files and words one end is due at the most
+-- for told files and words one end is due at the most beside what a search found
 pub one_end : (told : Option Files) (words : List (List ℕ)) → HasOneEnd told words
-one_end told words files a b is p q =
-    same_told files words a b (subst (λ (t : Option Files). Due t words a) is p) (subst (λ (t : Option Files). Due t words b) is q)
+one_end told words files found a b is p q =
+    same_told files words found a b (subst (λ (t : Option Files). Due t words found a) is p) (subst (λ (t : Option Files). Due t words found b) is q)
+
+-- ---- a search stands behind an end or it doesn't
+
+some_search : (found other : Option Found) (a b : End) (verb : Verb) (road : Road) (name : List ℕ) (bytes : Option (List ℕ))
+    → FollowsRoad verb road name bytes found a → FollowsRoad verb road name bytes other b → found ≡ None → other ≡ None
+some_search found other a b Judge road name bytes p q none = q.0
+some_search found other a b Check road name bytes p q none = q.0
+some_search found other a b Replay road name bytes p q none = q.0
+some_search None other a b Solve road name bytes p q none = absurd p
+some_search (Some f) other a b Solve road name bytes p q none = cc
+
+some_after : (found other : Option Found) (a b : End) (verb : Verb) (made : Result Road End) (name : List ℕ) (bytes : Option (List ℕ))
+    → Follows verb made name bytes found a → Follows verb made name bytes other b → found ≡ None → other ≡ None
+some_after found other a b verb (Err early) name bytes p q none = q.0
+some_after found other a b verb (Ok road) name bytes p q none = some_search found other a b verb road name bytes p q none
+
+none_on_road : (files : Files) (command : RoadCommand) (found other : Option Found) (a b : End) → IsDueOnRoad (Some files) command found a → IsDueOnRoad (Some files) command other b → found ≡ None → other ≡ None
+none_on_road files command found other a b p q none =
+    some_after found other a b command.verb (road_due p.given.road p.given.table) command.other p.given.other p.follows
+    (subst (λ (g : Given). Follows command.verb (road_due g.road g.table) command.other g.other other b) (given_is files command found other a b p q) q.follows) none
+
+none_for : (files : Files) (command : Command) (other : Option Found) (a b : End) → IsDue (Some files) command None a → IsDue (Some files) command other b → other ≡ None
+none_for files (on_road command) other a b p q = none_on_road files command None other a b p q refl
+none_for files (trial number) other a b p q = absurd p
+
+-- where an end is due without a search, every end that is due is
+pub without_search : (files : Files) (words : List (List ℕ)) (other : Option Found) (a b : End) → Due (Some files) words None a → Due (Some files) words other b → other ≡ None
+without_search files words other a b p q =
+    let same : q.command ≡ p.command = same_some (command_of words) q.command p.command q.form p.form in
+    none_for files p.command other a b p.is_due (subst (λ (c : Command). IsDue (Some files) c other b) same q.is_due)
 
 -- ---- which ends are due
 
-bytes_status : (road : Road) (bytes : List ℕ) (s : Status) (l : List ℕ) → OfPlanBytes road bytes s l → IsTrue (may_be_due s)
+-- without a search no file is written, and the end of a missing file is the one of its status; a search has an answer
+abbrev pub IsEndOf : Option Found → End → Type 0
+IsEndOf None end = (end.file ≡ None) × (IsTrue (may_be_due end.status) × (end.status ≡ Missing → end ≡ missing_end))
+IsEndOf (Some found) end = IsTrue (is_answer end.status)
+
+missing_is : (end : End) → end ≡ missing_end → IsEndOf None end
 unfolding may_be_due
-bytes_status road bytes PlanRefused l h = refl
-bytes_status road bytes Done l h = refl
-bytes_status road bytes PlanBroken l h = refl
+missing_is end h = (ap (λ e. e.file) h, (ap (λ e. may_be_due e.status) h, λ e. h))
+
+bytes_status : (road : Road) (bytes : List ℕ) (s : Status) (l : List ℕ) → OfPlanBytes road bytes s l → IsTrue (may_be_due s) × (s ≡ Missing → ⊥)
+unfolding may_be_due
+bytes_status road bytes PlanRefused l h = (refl, λ e. omega (arith, ap exit_status e))
+bytes_status road bytes Done l h = (refl, λ e. omega (arith, ap exit_status e))
+bytes_status road bytes PlanBroken l h = (refl, λ e. omega (arith, ap exit_status e))
 bytes_status road bytes _ l h = absurd h.judged
 
-cert_status : (road : Road) (bytes : List ℕ) (s : Status) (l : List ℕ) → OfCertBytes road bytes s l → IsTrue (may_be_due s)
+cert_status : (road : Road) (bytes : List ℕ) (s : Status) (l : List ℕ) → OfCertBytes road bytes s l → IsTrue (may_be_due s) × (s ≡ Missing → ⊥)
 unfolding may_be_due
-cert_status road bytes Done l h = refl
-cert_status road bytes CertRefused l h = refl
+cert_status road bytes Done l h = (refl, λ e. omega (arith, ap exit_status e))
+cert_status road bytes CertRefused l h = (refl, λ e. omega (arith, ap exit_status e))
 cert_status road bytes _ l h = absurd h
 
-replayed_status : (road : Road) (bytes : List ℕ) (s : Status) (l : List ℕ) → OfReplayed road bytes s l → IsTrue (may_be_due s)
+replayed_status : (road : Road) (bytes : List ℕ) (s : Status) (l : List ℕ) → OfReplayed road bytes s l → IsTrue (may_be_due s) × (s ≡ Missing → ⊥)
 unfolding may_be_due
-replayed_status road bytes Done l h = refl
-replayed_status road bytes CertRefused l h = refl
+replayed_status road bytes Done l h = (refl, λ e. omega (arith, ap exit_status e))
+replayed_status road bytes CertRefused l h = (refl, λ e. omega (arith, ap exit_status e))
 replayed_status road bytes _ l h = absurd h
 
-road_status : (verb : Verb) (road : Road) (other : Option (List ℕ)) (end : End) → FollowsRoad verb road other end → IsTrue (may_be_due end.status)
+there_is : (end : End) → end.file ≡ None → IsTrue (may_be_due end.status) × (end.status ≡ Missing → ⊥) → IsEndOf None end
+there_is end file kind = (file, (kind.0, λ e. absurd (kind.1 e)))
+
+judged_kind : (road : Road) (other : Option (List ℕ)) (end : End) → Judges road other end → IsEndOf None end
+judged_kind road None end h = missing_is end h
+judged_kind road (Some bytes) end h = there_is end h.1 (bytes_status road bytes end.status end.output h.0)
+
+checked_kind : (road : Road) (other : Option (List ℕ)) (end : End) → Checks road other end → IsEndOf None end
+checked_kind road None end h = missing_is end h
+checked_kind road (Some bytes) end h = there_is end h.1.1 (cert_status road bytes end.status end.output h.1.0)
+
+replay_kind : (road : Road) (other : Option (List ℕ)) (end : End) → Replays road other end → IsEndOf None end
+replay_kind road None end h = missing_is end h
+replay_kind road (Some bytes) end h = there_is end h.1.1 (replayed_status road bytes end.status end.output h.1.0)
+
+pub found_status : (s : Status) (cost bound : Option Fraction) → HasStatus s cost bound → IsTrue (is_answer s)
+found_status Done cost bound h = refl
+found_status Gap cost bound h = refl
+found_status _ cost bound h = absurd h
+
+no_search : (found : Option Found) (end : End) → found ≡ None → IsEndOf None end → IsEndOf found end
+no_search found end none h = subst (λ (f : Option Found). IsEndOf f end) (sym none) h
+
+road_kind : (verb : Verb) (road : Road) (name : List ℕ) (other : Option (List ℕ)) (found : Option Found) (end : End) → FollowsRoad verb road name other found end → IsEndOf found end
+road_kind Judge road name other found end h = no_search found end h.0 (judged_kind road other end h.1)
+road_kind Check road name other found end h = no_search found end h.0 (checked_kind road other end h.1)
+road_kind Replay road name other found end h = no_search found end h.0 (replay_kind road other end h.1)
+road_kind Solve road name other None end h = absurd h
+road_kind Solve road name other (Some found) end h = found_status end.status found.cert.cost found.cert.bound h.status
+
+refused_is : (fault : Fault) (end : End) → end ≡ said RoadRefused (road_refused_line fault) → IsEndOf None end
 unfolding may_be_due
-road_status Judge road None end h = ap (λ e. may_be_due e.status) h
-road_status Judge road (Some bytes) end h = bytes_status road bytes end.status end.output h.0
-road_status Check road None end h = ap (λ e. may_be_due e.status) h
-road_status Check road (Some bytes) end h = cert_status road bytes end.status end.output h.1.0
-road_status Replay road None end h = ap (λ e. may_be_due e.status) h
-road_status Replay road (Some bytes) end h = replayed_status road bytes end.status end.output h.1.0
+refused_is fault end h = (ap (λ e. e.file) h, (ap (λ e. may_be_due e.status) h, λ e. absurd (omega (arith, ap (λ x. exit_status x.status) h, ap exit_status e))))
 
-kept_status : (verb : Verb) (made : Result Road Fault) (other : Option (List ℕ)) (end : End) → Follows verb (keeps_rules made) other end → IsTrue (may_be_due end.status)
-unfolding may_be_due
-kept_status verb (Err fault) other end h = ap (λ e. may_be_due e.status) h
-kept_status verb (Ok road) other end h = road_status verb road other end h
+kept_kind : (verb : Verb) (made : Result Road Fault) (name : List ℕ) (other : Option (List ℕ)) (found : Option Found) (end : End) → Follows verb (keeps_rules made) name other found end → IsEndOf found end
+kept_kind verb (Err fault) name other found end h = no_search found end h.0 (refused_is fault end h.1)
+kept_kind verb (Ok road) name other found end h = road_kind verb road name other found end h
 
-named_status : (verb : Verb) (bytes : List ℕ) (named : Result (Option (List ℕ)) Fault) (table other : Option (List ℕ)) (end : End)
-    → Follows verb (keeps_rules named >>= (λ name. is_table_there name table >>= (λ csv. keeps_rules (road_of bytes csv)))) other end → IsTrue (may_be_due end.status)
-unfolding may_be_due
-named_status verb bytes (Err fault) table other end h = ap (λ e. may_be_due e.status) h
-named_status verb bytes (Ok None) table other end h = kept_status verb (road_of bytes None) other end h
-named_status verb bytes (Ok (Some name)) None other end h = ap (λ e. may_be_due e.status) h
-named_status verb bytes (Ok (Some name)) (Some csv) other end h = kept_status verb (road_of bytes (Some csv)) other end h
+named_kind : (verb : Verb) (bytes : List ℕ) (named : Result (Option (List ℕ)) Fault) (table : Option (List ℕ)) (name : List ℕ) (other : Option (List ℕ)) (found : Option Found) (end : End)
+    → Follows verb (keeps_rules named >>= (λ name. is_table_there name table >>= (λ csv. keeps_rules (road_of bytes csv)))) name other found end → IsEndOf found end
+named_kind verb bytes (Err fault) table name other found end h = no_search found end h.0 (refused_is fault end h.1)
+named_kind verb bytes (Ok None) table name other found end h = kept_kind verb (road_of bytes None) name other found end h
+named_kind verb bytes (Ok (Some tabled)) None name other found end h = no_search found end h.0 (missing_is end h.1)
+named_kind verb bytes (Ok (Some tabled)) (Some csv) name other found end h = kept_kind verb (road_of bytes (Some csv)) name other found end h
 
-pub due_status : (verb : Verb) (road table other : Option (List ℕ)) (end : End) → Follows verb (road_due road table) other end → IsTrue (may_be_due end.status)
-unfolding road_due may_be_due
-due_status verb None table other end h = ap (λ e. may_be_due e.status) h
-due_status verb (Some bytes) table other end h = named_status verb bytes (table_name_of bytes) table other end h
-
-bytes_missing : (road : Road) (bytes : List ℕ) (s : Status) (l : List ℕ) → OfPlanBytes road bytes s l → s ≡ Missing → ⊥
-bytes_missing road bytes PlanRefused l h e = omega (arith, ap exit_status e)
-bytes_missing road bytes Done l h e = omega (arith, ap exit_status e)
-bytes_missing road bytes PlanBroken l h e = omega (arith, ap exit_status e)
-bytes_missing road bytes _ l h e = h.judged
-
-cert_missing : (road : Road) (bytes : List ℕ) (s : Status) (l : List ℕ) → OfCertBytes road bytes s l → s ≡ Missing → ⊥
-cert_missing road bytes Done l h e = omega (arith, ap exit_status e)
-cert_missing road bytes CertRefused l h e = omega (arith, ap exit_status e)
-cert_missing road bytes _ l h e = h
-
-replayed_missing : (road : Road) (bytes : List ℕ) (s : Status) (l : List ℕ) → OfReplayed road bytes s l → s ≡ Missing → ⊥
-replayed_missing road bytes Done l h e = omega (arith, ap exit_status e)
-replayed_missing road bytes CertRefused l h e = omega (arith, ap exit_status e)
-replayed_missing road bytes _ l h e = h
-
-road_missing : (verb : Verb) (road : Road) (other : Option (List ℕ)) (end : End) → FollowsRoad verb road other end → end.status ≡ Missing → end ≡ missing_end
-road_missing Judge road None end h e = h
-road_missing Judge road (Some bytes) end h e = absurd (bytes_missing road bytes end.status end.output h.0 e)
-road_missing Check road None end h e = h
-road_missing Check road (Some bytes) end h e = absurd (cert_missing road bytes end.status end.output h.1.0 e)
-road_missing Replay road None end h e = h
-road_missing Replay road (Some bytes) end h e = absurd (replayed_missing road bytes end.status end.output h.1.0 e)
-
-kept_missing : (verb : Verb) (made : Result Road Fault) (other : Option (List ℕ)) (end : End) → Follows verb (keeps_rules made) other end → end.status ≡ Missing → end ≡ missing_end
-kept_missing verb (Err fault) other end h e = absurd (omega (arith, ap (λ x. exit_status x.status) h, ap exit_status e))
-kept_missing verb (Ok road) other end h e = road_missing verb road other end h e
-
-named_missing : (verb : Verb) (bytes : List ℕ) (named : Result (Option (List ℕ)) Fault) (table other : Option (List ℕ)) (end : End)
-    → Follows verb (keeps_rules named >>= (λ name. is_table_there name table >>= (λ csv. keeps_rules (road_of bytes csv)))) other end → end.status ≡ Missing → end ≡ missing_end
-named_missing verb bytes (Err fault) table other end h e = absurd (omega (arith, ap (λ x. exit_status x.status) h, ap exit_status e))
-named_missing verb bytes (Ok None) table other end h e = kept_missing verb (road_of bytes None) other end h e
-named_missing verb bytes (Ok (Some name)) None other end h e = h
-named_missing verb bytes (Ok (Some name)) (Some csv) other end h e = kept_missing verb (road_of bytes (Some csv)) other end h e
-
--- where the end of a missing file is due, nothing is printed and nothing is written
-pub due_missing : (verb : Verb) (road table other : Option (List ℕ)) (end : End) → Follows verb (road_due road table) other end → end.status ≡ Missing → end ≡ missing_end
+due_kind : (verb : Verb) (road table : Option (List ℕ)) (name : List ℕ) (other : Option (List ℕ)) (found : Option Found) (end : End) → Follows verb (road_due road table) name other found end → IsEndOf found end
 unfolding road_due
-due_missing verb None table other end h e = h
-due_missing verb (Some bytes) table other end h e = named_missing verb bytes (table_name_of bytes) table other end h e
+due_kind verb None table name other found end h = no_search found end h.0 (missing_is end h.1)
+due_kind verb (Some bytes) table name other found end h = named_kind verb bytes (table_name_of bytes) table name other found end h
+
+pub end_kind : (told : Option Files) (command : Command) (found : Option Found) (end : End) → IsDue told command found end → IsEndOf found end
+end_kind told (on_road command) found end due = due_kind command.verb due.given.road due.given.table command.other due.given.other found end due.follows
+end_kind told (trial number) None end due = absurd due
+end_kind told (trial number) (Some found) end due = found_status end.status found.cert.cost found.cert.bound due.status

@@ -1,11 +1,11 @@
 -- The statuses of ends, by kind.
 use Rattle.std.specs.Prelude.{Bool, true, false, IsTrue}
-use Rattle.std.proofs.Common.{◌≡◌, arith, ap, refl}
+use Rattle.std.proofs.Common.{◌≡◌, arith, ap, refl, sym, ◌∙◌}
 use Rattle.std.proofs.lemmas.Bool.{false≢true}
 use Rattle.roadopt_program.specs.declared.status.Status.{Status}
-use Rattle.roadopt_program.specs.declared.status.Status.TheVariants.{Done, Gap, Usage, ReadFault, WriteFault, NoMemory, Missing}
+use Rattle.roadopt_program.specs.declared.status.Status.TheVariants.{Done, Gap, Usage, ReadFault, WriteFault, RoadRefused, CertRefused, NoMemory, PlanBroken, PlanRefused, Missing}
 use Rattle.roadopt_program.specs.Ends.{after_fault}
-use Rattle.roadopt_program.specs.Statuses.{exit_status, is_answer, is_refusal, is_silent}
+use Rattle.roadopt_program.specs.Statuses.{exit_status, is_answer, may_hand_out, is_refusal, is_silent}
 
 -- the statuses that may be due
 unfoldable pub may_be_due : Status → Bool
@@ -84,3 +84,45 @@ no_read_fault_ends h = false≢true h
 pub no_write_fault_due : IsTrue (may_be_due WriteFault) → ⊥
 unfolding may_be_due
 no_write_fault_due h = false≢true h
+
+-- ---- what is handed out
+
+pub answer_hands_out : (s : Status) → IsTrue (is_answer s) → IsTrue (may_hand_out s)
+answer_hands_out Done h = refl
+answer_hands_out Gap h = refl
+answer_hands_out _ h = absurd (false≢true h)
+
+pub lost_hands_out : (s : Status) → IsTrue (is_answer s) → IsTrue (may_hand_out (after_fault s))
+lost_hands_out Done h = refl
+lost_hands_out Gap h = refl
+lost_hands_out _ h = absurd (false≢true h)
+
+pub answer_after_fault : (s : Status) → IsTrue (is_answer s) → after_fault s ≡ WriteFault
+answer_after_fault Done h = refl
+answer_after_fault Gap h = refl
+answer_after_fault _ h = absurd (false≢true h)
+
+pub refusal_keeps : (s : Status) → IsTrue (is_refusal s) → may_hand_out s ≡ false
+refusal_keeps RoadRefused h = refl
+refusal_keeps CertRefused h = refl
+refusal_keeps PlanBroken h = refl
+refusal_keeps PlanRefused h = refl
+refusal_keeps _ h = absurd (false≢true h)
+
+pub silent_keeps : (s : Status) → IsTrue (is_silent s) → may_hand_out s ≡ false
+silent_keeps ReadFault h = refl
+silent_keeps Missing h = refl
+silent_keeps NoMemory h = refl
+silent_keeps _ h = absurd (false≢true h)
+
+pub missing_keeps : (s : Status) → s ≡ Missing → may_hand_out s ≡ false
+missing_keeps s h = ap may_hand_out h
+
+pub lost_keeps : (s : Status) → s ≡ WriteFault → IsTrue (may_hand_out s)
+lost_keeps s h = ap may_hand_out h
+
+pub true_not_false : (b : Bool) → IsTrue b → b ≡ false → ⊥
+true_not_false b h e = false≢true (sym e ∙ h)
+
+pub lost_no_answer : (s : Status) → s ≡ WriteFault → IsTrue (is_answer s) → ⊥
+lost_no_answer s e h = false≢true (sym (ap is_answer e) ∙ h)

@@ -12,8 +12,8 @@ use Rattle.road_types.specs.declared.fault.Fault.{Fault}
 use Rattle.road_file.specs.RoadOf.{table_name_of}
 use Rattle.cert_text.specs.Validity.{longest_text}
 use Rattle.roadopt_program.specs.declared.forms.Verb.{Verb}
-use Rattle.roadopt_program.specs.declared.forms.Verb.TheVariants.{Judge, Check, Replay}
-use Rattle.roadopt_program.specs.Forms.{Command}
+use Rattle.roadopt_program.specs.declared.forms.Verb.TheVariants.{Judge, Check, Replay, Solve}
+use Rattle.roadopt_program.specs.Forms.{RoadCommand}
 
 -- one more byte than a road file may have
 unfoldable pub road_limit : ℕ
@@ -23,15 +23,21 @@ road_limit = longest_file + 1
 unfoldable pub cert_limit : ℕ
 cert_limit = longest_text + 1
 
--- how many bytes of a command's further file are read at the most
-abbrev pub other_limit : Verb → ℕ
-other_limit Judge = road_limit
-other_limit Check = cert_limit
-other_limit Replay = cert_limit
+-- how many bytes of a command's further file are read at the most; a search reads none, since its further file is written
+abbrev pub other_limit : Verb → Option ℕ
+other_limit Judge = Some road_limit
+other_limit Check = Some cert_limit
+other_limit Replay = Some cert_limit
+other_limit Solve = None
 
 -- where files are told: the first `most` bytes of the named one, or none where there is no such file
 abbrev pub IsGiven : Option Files → List ℕ → ℕ → Option (List ℕ) → Type 0
 IsGiven told name most given = IfSome told (λ files. given ≡ option_map (take most) (get files name))
+
+-- the same of a file that is read up to a limit, where there is one; where there is none, nothing is given
+abbrev pub IsGivenWithin : Option Files → List ℕ → Option ℕ → Option (List ℕ) → Type 0
+IsGivenWithin told name None given = given ≡ None
+IsGivenWithin told name (Some most) given = IsGiven told name most given
 
 -- the name in what was read of a road file; a refused file names none
 abbrev pub name_read : Result (Option (List ℕ)) Fault → Option (List ℕ)
@@ -55,7 +61,7 @@ pub record Given : Type 0 where
   pub other : Option (List ℕ)
 
 -- these are the files' bytes; the section table is the one that the road's file names
-pub record AreGiven (told : Option Files) (command : Command) (given : Given) : Type 0 where
+pub record AreGiven (told : Option Files) (command : RoadCommand) (given : Given) : Type 0 where
   pub road : IsGiven told command.road road_limit given.road
   pub table : IsGivenIfNamed told (table_named given.road) road_limit given.table
-  pub other : IsGiven told command.other (other_limit command.verb) given.other
+  pub other : IsGivenWithin told command.other (other_limit command.verb) given.other

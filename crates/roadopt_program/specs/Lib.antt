@@ -6,6 +6,9 @@ pub mod Inputs
 pub mod Judging
 pub mod CertChecking
 pub mod Replaying
+pub mod Solving
+pub mod Trying
 pub mod Due
+pub mod Headline
 pub mod Runs
 pub mod inside

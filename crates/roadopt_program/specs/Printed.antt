@@ -1,14 +1,18 @@
 -- The lines that the program prints, each with its last byte 10.
 --     fault_name, rule_name      the names of faults and rules
 --     cert_rule_name      the names of the rules of certificates
---     usage_line, road_refused_line, plan_refused_line, broken_line, admissible_line, cert_refused_line, valid_line      the lines
+--     usage_line, road_refused_line, plan_refused_line, broken_line, admissible_line, cert_refused_line, valid_line, trial_line      the lines
 use Rattle.std.specs.Prelude.{ℕ, List, ◌++◌, codes, Option, Some, None}
 use Rattle.std.specs.Fmt.{decimal}
 use Rattle.road_types.specs.declared.fault.Fault.{Fault}
+use Rattle.road_types.specs.declared.road.Road.{Road}
+use Rattle.road_types.specs.Road.{section_count}
 use Rattle.road_types.specs.declared.fault.Fault.TheVariants.{F1, F2, F3, F4, F5, F6, F7, F8, F9, F10, F11, F12, F13, F14, F15, F16, F17, F18}
 use Rattle.plan_rules.specs.declared.verdict.Rule.{Rule}
 use Rattle.plan_rules.specs.declared.verdict.Rule.TheVariants.{P1, P2, P3, P4, P5, P6, P7, P8, P9}
 use Rattle.numbers.specs.Fractions.{Fraction, fraction_text}
+use Rattle.roadopt_program.specs.declared.status.Status.{Status}
+use Rattle.roadopt_program.specs.declared.status.Status.TheVariants.{Done}
 use Rattle.cert_checker.specs.declared.refusal.CertRule.{CertRule}
 use Rattle.cert_checker.specs.declared.refusal.CertRule.TheVariants.{C1, C2, C3, C4, C5, C6, C7, C8, C9}
 
@@ -90,3 +94,20 @@ cost_text (Some cost) = fraction_text cost
 unfoldable pub valid_line : Option Fraction → Option Fraction → List ℕ
 valid_line cost None = codes "valid no plan\n"
 valid_line cost (Some bound) = codes "valid cost " ++ (cost_text cost ++ (codes " bound " ++ (fraction_text bound ++ codes "\n")))
+
+-- the gap between cost and bound, by the status of the run
+abbrev pub gap_word : Status → List ℕ
+gap_word Done = codes "none"
+gap_word _ = codes "open"
+
+-- `no plan` where no bound stands, else `cost n/d bound n/d gap none`, with `none` where no plan stands, and `open` where the gap is
+unfoldable pub found_text : Option Fraction → Option Fraction → Status → List ℕ
+found_text cost None status = codes " no plan\n"
+found_text cost (Some bound) status =
+    codes " cost " ++ (cost_text cost ++ (codes " bound " ++ (fraction_text bound ++ (codes " gap " ++ (gap_word status ++ codes "\n")))))
+
+-- `trial NUMBER sections N stages T nodes COUNT`, and what was found
+unfoldable pub trial_line : ℕ → Road → ℕ → Option Fraction → Option Fraction → Status → List ℕ
+trial_line number road count cost bound status =
+    codes "trial " ++ (decimal number ++ (codes " sections " ++ (decimal (section_count road) ++ (codes " stages " ++ (decimal road.stages
+    ++ (codes " nodes " ++ (decimal count ++ found_text cost bound status)))))))

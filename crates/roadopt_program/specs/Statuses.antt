@@ -1,6 +1,7 @@
 -- The ends of a run, by their status.
 --     exit_status      the number that the program ends with
 --     is_answer, is_refusal      an end with an answer; one that refuses what a file says, with one line
+--     may_hand_out      an end at which what a search found is handed out
 --     is_silent      an end at which nothing is printed
 use Rattle.std.specs.Prelude.{ℕ, Bool, true, false}
 use Rattle.roadopt_program.specs.declared.status.Status.{Status}
@@ -24,6 +25,13 @@ abbrev pub is_answer : Status → Bool
 is_answer Done = true
 is_answer Gap = true
 is_answer _ = false
+
+-- an answer stands, or it was lost as it was written or printed
+abbrev pub may_hand_out : Status → Bool
+may_hand_out Done = true
+may_hand_out Gap = true
+may_hand_out WriteFault = true
+may_hand_out _ = false
 
 -- a road, a certificate or a plan is refused
 abbrev pub is_refusal : Status → Bool

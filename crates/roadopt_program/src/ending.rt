@@ -1,12 +1,13 @@
 // What is put out at the end of a run.
-ghost use Rattle.std.specs.Prelude.{◌≡◌, [], IsTrue};
+ghost use Rattle.std.specs.Prelude.{◌≡◌, ℕ, List, [], None, IsTrue};
 ghost use Rattle.std.specs.String.{string_bytes};
 ghost use Rattle.roadopt_program.specs.Ends.{Says, after_fault, said, missing_end};
 ghost use Rattle.roadopt_program.specs.Statuses.{is_silent};
-ghost use Rattle.roadopt_program.specs.inside.Outcomes.{Prints, end_of};
+ghost use Rattle.roadopt_program.specs.inside.Outcomes.{Prints, Finishes, end_of, made_end};
 
 use crate::Status;
-use outside::Sink;
+use branch_bound::Found;
+use outside::{Sink, Store};
 use std::alloc::Global;
 
 /// The end of a run and the bytes that are due for the output.
@@ -14,6 +15,29 @@ use std::alloc::Global;
 pub(crate) struct Ending {
     pub(crate) status: Status,
     pub(crate) output: Vec<u8>,
+}
+
+/// All that is made for the end of a run, before anything is written.
+#[derive(Drop)]
+pub(crate) struct Made {
+    /// The status and what is printed.
+    pub(crate) ending: Ending,
+    /// The bytes of the file that is written, if any.
+    pub(crate) text: Option<Vec<u8>>,
+    /// What the search found, if there was one.
+    pub(crate) found: Option<Found>,
+}
+
+/// An end without a search, which writes no file.
+pub(crate) fn unsearched(ending: Ending) -> Made
+    ensures found { result.found ≡ None }
+    ensures end { (name : List ℕ) → made_end name result ≡ end_of ending }
+{
+    Made {
+        ending,
+        text: None,
+        found: None,
+    }
 }
 
 /// The end at which this line is printed.
@@ -72,6 +96,27 @@ pub(crate) fn print<O: Sink>(out: &mut O, ending: &Ending) -> Status
         Ok(()) => ending.status,
         Err(_) => after_fault(ending.status),
     }
+}
+
+/// Writes the file that is due, and then prints what is due; answers the end of the run.
+pub(crate) fn finish<S: Store, O: Sink>(
+    made: &Made,
+    name: &str,
+    store: &mut S,
+    out: &mut O,
+) -> Status
+    ensures finishes { Finishes (S.files store.old) (S.files store.new) (made_end name.now made.now) (S.write_faults store.old) (S.write_faults store.new)
+        (record { written = O.written out.old; faults = O.faults out.old })
+        (record { written = O.written out.new; faults = O.faults out.new }) result }
+    ensures silent { IsTrue (is_silent result) → out.new ≡ out.old }
+    ensures reads { S.read_faults store.new ≡ S.read_faults store.old }
+{
+    if let Some(text) = &made.text {
+        if store.write(name, text.as_slice()).is_err() {
+            return Status::WriteFault;
+        }
+    }
+    print(out, &made.ending)
 }
 
 /// Prints the line of a refusal, which stays one where the line couldn't be written.

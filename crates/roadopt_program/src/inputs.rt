@@ -1,5 +1,5 @@
 // The bytes of the files that a run reads.
-ghost use Rattle.std.specs.Prelude.{◌≡◌, ◌+◌, ◌^◌, ◌≤◌, IfOk, IsErrOf, None};
+ghost use Rattle.std.specs.Prelude.{◌≡◌, ◌+◌, ◌^◌, ◌≤◌, IfOk, IfSome, IsErrOf, None};
 ghost use Rattle.std.specs.Option.{option_map};
 ghost use Rattle.outside.specs.Faults.{HasRisen};
 ghost use Rattle.roadopt_program.specs.Inputs.{road_limit, cert_limit, other_limit, IsGiven};
@@ -47,14 +47,15 @@ pub(crate) fn cert_limit() -> usize
 }
 
 impl Verb {
-    /// How many bytes of the command's further file are read at the most.
-    pub(crate) fn other_limit(self) -> usize
+    /// How many bytes of the command's further file are read at the most; `None` where none is read.
+    pub(crate) fn other_limit(self) -> Option<usize>
         ensures value { result ≡ other_limit self }
-        ensures within { result ≤ 2 ^ 26 + 1 }
+        ensures within { IfSome result (λ most. most ≤ 2 ^ 26 + 1) }
     {
         match self {
-            Verb::Judge => road_limit(),
-            Verb::Check | Verb::Replay => cert_limit(),
+            Verb::Judge => Some(road_limit()),
+            Verb::Check | Verb::Replay => Some(cert_limit()),
+            Verb::Solve => None,
         }
     }
 }
@@ -71,6 +72,7 @@ pub(crate) fn read_file<S: Store>(
     ensures missing { IfOk result (λ found. found ≡ None → S.read_faults store.new ≡ S.read_faults store.old) }
     ensures failed { IsErrOf result Lost.Failed → HasRisen (S.read_faults store.old) (S.read_faults store.new) }
     ensures files { S.files store.new ≡ S.files store.old }
+    ensures writes { S.write_faults store.new ≡ S.write_faults store.old }
     ensures never_falls { S.read_faults store.old ≤ S.read_faults store.new }
 {
     match store.read(alloc, name, most) {

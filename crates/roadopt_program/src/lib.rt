@@ -12,7 +12,9 @@ mod lines;
 mod program;
 mod replaying;
 mod roads;
+mod solving;
 mod status;
+mod trying;
 
 pub use program::{Answer, run};
 pub use status::Status;

@@ -3,12 +3,14 @@ ghost use Rattle.std.specs.Prelude.{◌≡◌, ◌≢◌, ◌<◌, ◌^◌, ◌+
 ghost use Rattle.numbers.specs.Fractions.{fraction_text};
 ghost use Rattle.std.specs.String.{string_bytes};
 ghost use Rattle.roadopt_program.specs.Judging.{PrintsFraction};
-ghost use Rattle.roadopt_program.specs.Printed.{fault_name, rule_name, road_refused_line, plan_refused_line, broken_line, admissible_line, cert_rule_name, cert_refused_line, cost_text, valid_line};
+ghost use Rattle.roadopt_program.specs.Printed.{fault_name, rule_name, road_refused_line, plan_refused_line, broken_line, admissible_line, cert_rule_name, cert_refused_line, cost_text, valid_line, gap_word, found_text, trial_line};
 
+use crate::Status;
+use branch_bound::Found;
 use cert_checker::CertRule;
 use numbers::Frac;
 use plan_rules::Rule;
-use road_types::Fault;
+use road_types::{Fault, Road};
 use std::alloc::{AllocError, Global};
 
 fn fault_name(fault: Fault) -> &'static str
@@ -171,4 +173,67 @@ pub(crate) fn valid_line(
         Some(bound) => bounded_line(alloc, cost, bound),
         None => format!(in alloc; "valid no plan\n"),
     }
+}
+
+/// The word for the gap between cost and bound, by the status of the run.
+fn gap_word(status: Status) -> &'static str
+    ensures { result.now ≡ gap_word status }
+{
+    match status {
+        Status::Done => "none",
+        _ => "open",
+    }
+}
+
+/// What a search found beside a bound: cost, bound and gap.
+fn bounded_text(
+    alloc: Global,
+    cost: &Option<Frac>,
+    bound: &Frac,
+    status: Status,
+) -> Result<String, AllocError>
+    ensures { IfOk result (λ text. string_bytes text
+        ≡ codes " cost " ++ (cost_text cost.now ++ (codes " bound " ++ (fraction_text bound.now ++ (codes " gap " ++ (gap_word status ++ codes "\n")))))) }
+{
+    let cost = cost_text(alloc, cost)?;
+    let cost = cost.as_str();
+    let bound = bound.text(alloc)?;
+    let bound = bound.as_str();
+    let gap = gap_word(status);
+    format!(in alloc; " cost {cost} bound {bound} gap {gap}\n")
+}
+
+/// What a search found.
+#[tactic(auto, unfolding(crate::specs::Printed::found_text))]
+fn found_text(
+    alloc: Global,
+    cost: &Option<Frac>,
+    bound: &Option<Frac>,
+    status: Status,
+) -> Result<String, AllocError>
+    ensures { IfOk result (λ text. string_bytes text ≡ found_text cost.now bound.now status) }
+{
+    match bound {
+        Some(bound) => bounded_text(alloc, cost, bound, status),
+        None => format!(in alloc; " no plan\n"),
+    }
+}
+
+/// The line for what the search of a trial road found.
+#[tactic(auto, unfolding(crate::specs::Printed::trial_line))]
+pub(crate) fn trial_line(
+    alloc: Global,
+    number: u64,
+    road: &Road,
+    found: &Found,
+    status: Status,
+) -> Result<String, AllocError>
+    ensures { IfOk result (λ line. string_bytes line ≡ trial_line number road.now found.now.count found.now.cert.cost found.now.cert.bound status) }
+{
+    let text = found_text(alloc, &found.cert.cost, &found.cert.bound, status)?;
+    let text = text.as_str();
+    let sections = road.sections.len();
+    let stages = road.stages;
+    let nodes = found.count;
+    format!(in alloc; "trial {number} sections {sections} stages {stages} nodes {nodes}{text}")
 }

@@ -54,6 +54,7 @@ fn road_by_table<S: Store>(
     ensures accepted { IfOk result (λ made. IfOk made (λ road. road_fault road ≡ None)) }
     ensures failed { IsErrOf result Lost.Failed → HasRisen (S.read_faults store.old) (S.read_faults store.new) }
     ensures files { S.files store.new ≡ S.files store.old }
+    ensures writes { S.write_faults store.new ≡ S.write_faults store.old }
     ensures never_falls { S.read_faults store.old ≤ S.read_faults store.new }
 {
     match read_file(alloc, name, road_limit(), store)? {
@@ -73,6 +74,7 @@ fn road_by_bytes<S: Store>(
     ensures accepted { IfOk result (λ made. IfOk made (λ road. road_fault road ≡ None)) }
     ensures failed { IsErrOf result Lost.Failed → HasRisen (S.read_faults store.old) (S.read_faults store.new) }
     ensures files { S.files store.new ≡ S.files store.old }
+    ensures writes { S.write_faults store.new ≡ S.write_faults store.old }
     ensures never_falls { S.read_faults store.old ≤ S.read_faults store.new }
 {
     match table_name(alloc, bytes) {
@@ -94,6 +96,7 @@ pub(crate) fn find_road<S: Store>(
     ensures accepted { IfOk result (λ made. IfOk made (λ road. road_fault road ≡ None)) }
     ensures failed { IsErrOf result Lost.Failed → HasRisen (S.read_faults store.old) (S.read_faults store.new) }
     ensures files { S.files store.new ≡ S.files store.old }
+    ensures writes { S.write_faults store.new ≡ S.write_faults store.old }
     ensures never_falls { S.read_faults store.old ≤ S.read_faults store.new }
 {
     match read_file(alloc, name, road_limit(), store)? {
