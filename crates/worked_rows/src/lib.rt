@@ -2,4 +2,10 @@
 #![tactic(auto)]
 
 #[cfg(test)]
-mod judge;
+mod failing;
+#[cfg(test)]
+mod runs;
+#[cfg(test)]
+mod solving;
+#[cfg(test)]
+mod texts;
