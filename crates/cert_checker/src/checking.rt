@@ -1,7 +1,7 @@
 // The check of a certificate.
 ghost use Rattle.std.specs.Prelude.{◌≡◌, ◌≤◌, ◌^◌, IsTrue, ◌↔◌, None, Some, IfOk, unsigned_abs, length};
 ghost use Rattle.algebra.specs.Scale.{IsScale};
-ghost use Rattle.numbers.specs.Fractions.{HasValue, IsReduced};
+ghost use Rattle.numbers.specs.Fractions.{HasValue};
 ghost use Rattle.road_types.specs.Faults.{road_fault};
 ghost use Rattle.plan_text.specs.PlanText.{HasText};
 ghost use Rattle.cert_text.specs.CertText.{IsStated, IsPricedOrNone};
@@ -12,7 +12,6 @@ ghost use Rattle.cert_checker.specs.inside.Findings.{FindsOrLine, AreFound, Ends
 
 use crate::refusal::{CertRule, CheckErr, Checked, Refusal};
 use crate::walk::{Walked, walk_tree};
-use algebra::same;
 use cert_text::{Heading, LONGEST_TEXT, PricedPlan, read_end, read_heading};
 use numbers::Frac;
 use plan_rules::{Verdict, judge};
@@ -29,18 +28,6 @@ pub(crate) struct Findings {
     pub(crate) walked: Walked,
 }
 
-/// The fractions are the same.
-fn same_fraction(a: &Frac, b: &Frac) -> bool
-    ensures same { IsTrue result ↔ (a.now ≡ b.now) }
-    ensures reduced { IsReduced a.now }
-{
-    if same(a.den(), b.den()) {
-        same(a.num(), b.num())
-    } else {
-        false
-    }
-}
-
 /// Whether the stated fraction is the cost over its denominator.
 fn is_value(stated: &Frac, cost: i128, den: i128) -> bool
     requires cost { unsigned_abs cost ≤ 2 ^ 118 }
@@ -48,7 +35,7 @@ fn is_value(stated: &Frac, cost: i128, den: i128) -> bool
     ensures { IsTrue result ↔ HasValue stated.now cost den }
 {
     match Frac::new(cost, den) {
-        Some(value) => same_fraction(stated, &value),
+        Some(value) => stated.is_same(&value),
         None => false,
     }
 }

@@ -1,4 +1,4 @@
-ghost use Rattle.std.specs.Prelude.{◌≡◌, ◌↔◌, ℕ, ◌≢◌, ◌<◌, ◌^◌, ℤ, pos, ◌≤ℤ◌, ◌<ℤ◌, IsSome, IsNone, IfSome, IfOk, string_bytes, unsigned_abs};
+ghost use Rattle.std.specs.Prelude.{◌≡◌, ◌↔◌, ℕ, ◌≢◌, ◌<◌, ◌^◌, ℤ, pos, ◌≤ℤ◌, ◌<ℤ◌, IsTrue, IsSome, IsNone, IfSome, IfOk, string_bytes, unsigned_abs};
 ghost use Rattle.algebra.specs.Scale.{greatest_scale};
 ghost use Rattle.numbers.specs.Fractions.{IsLeastCommonDenominator};
 ghost use Rattle.numbers.specs.inside.LowestTerms.{AreLowest, HasSign};
@@ -73,6 +73,14 @@ impl Frac {
     {
         let (num, den) = (self.num, self.den);
         format!(in alloc; "{num}/{den}")
+    }
+
+    /// Whether the two fractions are the same, which is whether their values are, since both are in lowest terms.
+    pub fn is_same(&self, other: &Frac) -> bool
+        ensures same { IsTrue result ↔ (self.now ≡ other.now) }
+        ensures reduced { IsReduced self.now }
+    {
+        self.num == other.num && self.den == other.den
     }
 }
 

@@ -1,5 +1,5 @@
 // The texts of cells.
-ghost use Rattle.std.specs.Prelude.{◌≡◌, ◌↔◌, ◌<◌, ◌^◌, [], unsigned_abs, IfOk, IsTrue, ◌&&◌, codes};
+ghost use Rattle.std.specs.Prelude.{◌≡◌, ◌<◌, ◌^◌, [], unsigned_abs, IfOk, ◌&&◌, codes};
 ghost use Rattle.algebra.specs.Scale.{IsScale};
 ghost use Rattle.std.specs.String.{string_bytes};
 ghost use Rattle.std.specs.Fmt.{decimal, signed_decimal};
@@ -8,7 +8,6 @@ ghost use Rattle.report.specs.Lines.{ShowsRatio, ShowsGap};
 ghost use Rattle.report.specs.Reports.{at_section, at_pit, opening_text, is_nothing, sizes_text, leaves_text, bound_text};
 
 use crate::OpenLeaves;
-use algebra::same;
 use numbers::Frac;
 use plan_rules::Plan;
 use road_types::{Pit, Road};
@@ -84,18 +83,6 @@ pub(crate) fn bound_text(alloc: Global, bound: &Frac) -> Result<String, AllocErr
     format!(in alloc; "bound {text}")
 }
 
-/// Whether two fractions are the same.
-fn same_fraction(a: &Frac, b: &Frac) -> bool
-    ensures same { IsTrue result ↔ (a.now ≡ b.now) }
-    ensures reduced { IsReduced a.now }
-{
-    if same(a.den(), b.den()) {
-        same(a.num(), b.num())
-    } else {
-        false
-    }
-}
-
 /// Whether there is a gap between a cost and a bound.
 #[tactic(auto, using(crate::proofs::CellsLemmas::gap_closed, crate::proofs::CellsLemmas::gap_open))]
 pub(crate) fn gap_text(num: i128, den: i128, bound: &Frac) -> &'static str
@@ -103,7 +90,7 @@ pub(crate) fn gap_text(num: i128, den: i128, bound: &Frac) -> &'static str
     requires den { IsScale den }
     ensures { ShowsGap num den bound.now result.now }
 {
-    if same_fraction(bound, &fraction(num, den)) {
+    if bound.is_same(&fraction(num, den)) {
         "gap none"
     } else {
         "gap open"

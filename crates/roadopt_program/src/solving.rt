@@ -1,6 +1,5 @@
 // `solve ROAD CERT` on an accepted road.
 ghost use Rattle.std.specs.Prelude.{◌≡◌, ◌↔◌, ◌++◌, ℕ, List, IfOk, IsTrue, Some, None};
-ghost use Rattle.numbers.specs.Fractions.{IsReduced};
 ghost use Rattle.road_types.specs.Faults.{road_fault};
 ghost use Rattle.cert_text.specs.CertText.{cert_text};
 ghost use Rattle.cert_text.specs.Certs.{certificate_of, IsSpelledCert};
@@ -12,7 +11,6 @@ ghost use Rattle.roadopt_program.specs.inside.Outcomes.{made_end};
 
 use crate::Status;
 use crate::ending::{Ending, Made};
-use algebra::same;
 use branch_bound::{Found, search};
 use cert_report::report_cert;
 use cert_text::{Cert, write_cert};
@@ -20,20 +18,13 @@ use numbers::Frac;
 use road_types::Road;
 use std::alloc::{AllocError, Global};
 
-/// The fractions are the same.
-fn same_fraction(a: &Frac, b: &Frac) -> bool
-    ensures { IsTrue result ↔ (a.now ≡ b.now) }
-{
-    same(a.den(), b.den()) && same(a.num(), b.num())
-}
-
 /// Cost and bound are one, or neither stands.
 fn has_no_gap(cost: &Option<Frac>, bound: &Option<Frac>) -> bool
     ensures { IsTrue result ↔ (cost.now ≡ bound.now) }
 {
     match (cost, bound) {
         (None, None) => true,
-        (Some(cost), Some(bound)) => same_fraction(cost, bound),
+        (Some(cost), Some(bound)) => cost.is_same(bound),
         (None, Some(_)) | (Some(_), None) => false,
     }
 }

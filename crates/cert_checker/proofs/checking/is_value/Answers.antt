@@ -11,4 +11,4 @@ returns-in-Some c =
     let den : FitsSigned w128 c.args.den = search rules in
     let value : HasValue c.in-Some.value c.args.cost c.args.den = simp to_z-of_z at c.in-Some.ensures.value in
     let one : (other : Fraction) → IsReduced other → HasValue other c.args.cost c.args.den → other ≡ c.in-Some.value = simp to_z-of_z at c.in-Some.ensures.one in
-    is_value_of c.args.stated.now c.in-Some.value c.args.cost c.args.den c.same_fraction.result c.same_fraction.ensures.reduced c.same_fraction.ensures.same value one
+    is_value_of c.args.stated.now c.in-Some.value c.args.cost c.args.den c.is_same.result c.is_same.ensures.reduced c.is_same.ensures.same value one
