@@ -3,16 +3,16 @@ use Rattle.std.proofs.Common.{sym, subst, inl, inr, ⊎_elim}
 use Rattle.std.specs.Prelude.{ℤ}
 use Rattle.best_first.specs.Keys.{IsAtMost}
 use Rattle.best_first.specs.KeyTrees.{KeyTree, ended, open_leaf, parted}
-use Rattle.best_first.specs.inside.Covers.{Covers, AreCovered, IsOrdered, IsAtMostOpen, IsLeaf, IsSplitOnce, IsEndedInPart}
+use Rattle.best_first.specs.inside.Covers.{CoversKey, AreCovered, IsOrderedTree, IsAtMostOpen, IsLeaf, IsSplitOnce, IsEndedInPart}
 
 -- a key at most that of each open leaf is covered
-pub covers_open : (key : ℤ × ℤ) (tree : KeyTree) → IsAtMostOpen key tree → Covers key tree
+pub covers_open : (key : ℤ × ℤ) (tree : KeyTree) → IsAtMostOpen key tree → CoversKey key tree
 covers_open key ended h = tt
 covers_open key (open_leaf own) h = h
 covers_open key (parted own first second) h = inr (covers_open key first h.0, covers_open key second h.1)
 
 -- a tree with one more split covers what it covered
-covers_split : (key p : ℤ × ℤ) (old new : KeyTree) → IsSplitOnce key old new → Covers p old → Covers p new
+covers_split : (key p : ℤ × ℤ) (old new : KeyTree) → IsSplitOnce key old new → CoversKey p old → CoversKey p new
 covers_split key p ended new s h = absurd s
 covers_split key p (open_leaf own) ended s h = absurd s
 covers_split key p (open_leaf own) (open_leaf other) s h = absurd s
@@ -24,8 +24,8 @@ covers_split key p (parted own first second) (parted new first' second') s h =
     ⊎_elim
     (λ at. inl (subst (IsAtMost p) (sym s.0) at))
     (λ both. inr (⊎_elim
-    (λ in_first. (covers_split key p first first' in_first.0 both.0, subst (Covers p) (sym in_first.1) both.1))
-    (λ in_second. (subst (Covers p) (sym in_second.0) both.0, covers_split key p second second' in_second.1 both.1))
+    (λ in_first. (covers_split key p first first' in_first.0 both.0, subst (CoversKey p) (sym in_first.1) both.1))
+    (λ in_second. (subst (CoversKey p) (sym in_second.0) both.0, covers_split key p second second' in_second.1 both.1))
     s.1))
     h
 
@@ -41,7 +41,7 @@ leaf_covered ended other h = tt
 leaf_covered (open_leaf key) other h = tt
 leaf_covered (parted key first second) other h = absurd h
 
-leaf_ordered : (tree : KeyTree) → IsLeaf tree → IsOrdered tree
+leaf_ordered : (tree : KeyTree) → IsLeaf tree → IsOrderedTree tree
 leaf_ordered ended h = tt
 leaf_ordered (open_leaf key) h = tt
 leaf_ordered (parted key first second) h = absurd h
@@ -52,17 +52,17 @@ split_covered key ended new other s least h = absurd s
 split_covered key (open_leaf own) ended other s least h = absurd s
 split_covered key (open_leaf own) (open_leaf new) other s least h = absurd s
 split_covered key (open_leaf own) (parted new first second) other s least h =
-    (subst (λ k. Covers k other) (sym s.1) (covers_open key other least), leaf_covered first other s.2, leaf_covered second other s.3)
+    (subst (λ k. CoversKey k other) (sym s.1) (covers_open key other least), leaf_covered first other s.2, leaf_covered second other s.3)
 split_covered key (parted own first second) ended other s least h = absurd s
 split_covered key (parted own first second) (open_leaf new) other s least h = absurd s
 split_covered key (parted own first second) (parted new first' second') other s least h =
     ⊎_elim
-    (λ i. (subst (λ k. Covers k other) (sym s.0) h.0, split_covered key first first' other i.0 least h.1, subst (λ t. AreCovered t other) (sym i.1) h.2))
-    (λ i. (subst (λ k. Covers k other) (sym s.0) h.0, subst (λ t. AreCovered t other) (sym i.0) h.1, split_covered key second second' other i.1 least h.2))
+    (λ i. (subst (λ k. CoversKey k other) (sym s.0) h.0, split_covered key first first' other i.0 least h.1, subst (λ t. AreCovered t other) (sym i.1) h.2))
+    (λ i. (subst (λ k. CoversKey k other) (sym s.0) h.0, subst (λ t. AreCovered t other) (sym i.0) h.1, split_covered key second second' other i.1 least h.2))
     s.1
 
 -- splitting an open leaf of least key keeps the order
-pub ordered_split : (key : ℤ × ℤ) (old new : KeyTree) → IsSplitOnce key old new → IsAtMostOpen key old → IsOrdered old → IsOrdered new
+pub ordered_split : (key : ℤ × ℤ) (old new : KeyTree) → IsSplitOnce key old new → IsAtMostOpen key old → IsOrderedTree old → IsOrderedTree new
 ordered_split key ended new s least h = absurd s
 ordered_split key (open_leaf own) ended s least h = absurd s
 ordered_split key (open_leaf own) (open_leaf new) s least h = absurd s
@@ -72,14 +72,14 @@ ordered_split key (parted own first second) ended s least h = absurd s
 ordered_split key (parted own first second) (open_leaf new) s least h = absurd s
 ordered_split key (parted own first second) (parted new first' second') s least h =
     ⊎_elim
-    (λ i. let P : KeyTree → Type 0 = λ t. IsOrdered first' × IsOrdered t × AreCovered first' t × AreCovered t first' in
+    (λ i. let P : KeyTree → Type 0 = λ t. IsOrderedTree first' × IsOrderedTree t × AreCovered first' t × AreCovered t first' in
     subst P (sym i.1) (
       ordered_split key first first' i.0 least.0 h.0,
       h.1,
       split_covered key first first' second i.0 least.1 h.2,
       covered_by_split key second first first' i.0 h.3,
     ))
-    (λ i. let P : KeyTree → Type 0 = λ t. IsOrdered t × IsOrdered second' × AreCovered t second' × AreCovered second' t in
+    (λ i. let P : KeyTree → Type 0 = λ t. IsOrderedTree t × IsOrderedTree second' × AreCovered t second' × AreCovered second' t in
     subst P (sym i.0) (
       h.0,
       ordered_split key second second' i.1 least.1 h.1,
@@ -89,7 +89,7 @@ ordered_split key (parted own first second) (parted new first' second') s least 
     s.1
 
 -- a tree with some open leaves ended covers what it covered
-covers_ended : (p : ℤ × ℤ) (old new : KeyTree) → IsEndedInPart old new → Covers p old → Covers p new
+covers_ended : (p : ℤ × ℤ) (old new : KeyTree) → IsEndedInPart old new → CoversKey p old → CoversKey p new
 covers_ended p ended ended e h = tt
 covers_ended p ended (open_leaf new) e h = absurd e
 covers_ended p ended (parted new first second) e h = absurd e
@@ -114,10 +114,10 @@ covered_ended (open_leaf own) (parted new first second) other other' e o h = abs
 covered_ended (parted own first second) ended other other' e o h = absurd e
 covered_ended (parted own first second) (open_leaf new) other other' e o h = absurd e
 covered_ended (parted own first second) (parted new first' second') other other' e o h =
-    (subst (λ k. Covers k other') (sym e.0) (covers_ended own other other' o h.0), covered_ended first first' other other' e.1 o h.1, covered_ended second second' other other' e.2 o h.2)
+    (subst (λ k. CoversKey k other') (sym e.0) (covers_ended own other other' o h.0), covered_ended first first' other other' e.1 o h.1, covered_ended second second' other other' e.2 o h.2)
 
 -- ending open leaves keeps the order
-pub ordered_ended : (old new : KeyTree) → IsEndedInPart old new → IsOrdered old → IsOrdered new
+pub ordered_ended : (old new : KeyTree) → IsEndedInPart old new → IsOrderedTree old → IsOrderedTree new
 ordered_ended ended ended e h = tt
 ordered_ended ended (open_leaf new) e h = absurd e
 ordered_ended ended (parted new first second) e h = absurd e

@@ -3,7 +3,7 @@ use Rattle.std.proofs.Common.{◌≡◌, List, [], ◌∷◌, ◌++◌, Some, ap
 use Rattle.std.specs.Prelude.{ℤ}
 use Rattle.best_first.specs.Keys.{IsAtMost}
 use Rattle.best_first.specs.KeyTrees.{KeyTree, ended, open_leaf, parted, Step, to_first, to_second, subtree, root_key, IsAbove, HasGreaterOnPath, IsBestFirst}
-use Rattle.best_first.specs.inside.Covers.{Covers, AreCovered, IsOrdered}
+use Rattle.best_first.specs.inside.Covers.{CoversKey, AreCovered, IsOrderedTree}
 use Rattle.best_first.proofs.KeyLemmas.{at_most_itself}
 
 -- on the path to an open leaf of a tree that covers the key stands a node whose key is at least that
@@ -29,7 +29,7 @@ below_second : (top key : ℤ × ℤ) (first second : KeyTree) (leaf : List Step
 below_second top key first second leaf w =
     record { path = to_second ∷ w.path; rest = w.rest; on_path = ap (λ p. to_second ∷ p) w.on_path; node = w.node; stands = w.stands; own = w.own; own_key = w.own_key; at_least = w.at_least }
 
-covered_on_path : (tree : KeyTree) (leaf : List Step) (key leaf_key : ℤ × ℤ) → Covers key tree → subtree tree leaf ≡ Some (open_leaf leaf_key) → Witness tree leaf key
+covered_on_path : (tree : KeyTree) (leaf : List Step) (key leaf_key : ℤ × ℤ) → CoversKey key tree → subtree tree leaf ≡ Some (open_leaf leaf_key) → Witness tree leaf key
 covered_on_path ended [] key leaf_key h e = absurd (cc)
 covered_on_path ended (step ∷ leaf) key leaf_key h e = absurd (cc)
 covered_on_path (open_leaf own) leaf key leaf_key h e = root_witness (open_leaf own) leaf key own refl h
@@ -46,13 +46,13 @@ covered_on_path (parted own first second) (to_second ∷ leaf) key leaf_key h e 
     h
 
 -- the tree covers each split of another tree beside it
-covered_splits : (tree other : KeyTree) (split : List Step) (key : ℤ × ℤ) (first second : KeyTree) → AreCovered tree other → subtree tree split ≡ Some (parted key first second) → Covers key other
+covered_splits : (tree other : KeyTree) (split : List Step) (key : ℤ × ℤ) (first second : KeyTree) → AreCovered tree other → subtree tree split ≡ Some (parted key first second) → CoversKey key other
 covered_splits ended other [] key first second h e = absurd (cc)
 covered_splits ended other (step ∷ split) key first second h e = absurd (cc)
 covered_splits (open_leaf own) other [] key first second h e = absurd (cc)
 covered_splits (open_leaf own) other (step ∷ split) key first second h e = absurd (cc)
 covered_splits (parted own x y) other [] key first second h e =
-    let same : own ≡ key = cc in subst (λ k. Covers k other) same h.0
+    let same : own ≡ key = cc in subst (λ k. CoversKey k other) same h.0
 covered_splits (parted own x y) other (to_first ∷ split) key first second h e = covered_splits x other split key first second h.1 e
 covered_splits (parted own x y) other (to_second ∷ split) key first second h e = covered_splits y other split key first second h.2 e
 
@@ -85,7 +85,7 @@ under_second : (top key : ℤ × ℤ) (first second : KeyTree) (split leaf : Lis
 under_second top key first second split leaf w =
     record { path = to_second ∷ w.path; rest = w.rest; on_path = ap (λ p. to_second ∷ p) w.on_path; not_above = λ h. w.not_above (above_tail to_second w.path split h); node = w.node; stands = w.stands; own = w.own; own_key = w.own_key; at_least = w.at_least }
 
-ordered_on_paths : (tree : KeyTree) (split leaf : List Step) (key leaf_key : ℤ × ℤ) (first second : KeyTree) → IsOrdered tree
+ordered_on_paths : (tree : KeyTree) (split leaf : List Step) (key leaf_key : ℤ × ℤ) (first second : KeyTree) → IsOrderedTree tree
     → subtree tree split ≡ Some (parted key first second) → subtree tree leaf ≡ Some (open_leaf leaf_key) → HasGreaterOnPath tree split leaf key
 unfolding root_witness below_second below_first
 ordered_on_paths ended [] leaf key leaf_key first second o s l = absurd (cc)
@@ -109,5 +109,5 @@ ordered_on_paths (parted own x y) (to_second ∷ split) (to_first ∷ leaf) key 
 ordered_on_paths (parted own x y) (to_second ∷ split) (to_second ∷ leaf) key leaf_key first second o s l =
     under_second own key x y split leaf (ordered_on_paths y split leaf key leaf_key first second o.1 s l)
 
-pub best_first_of : (tree : KeyTree) → IsOrdered tree → IsBestFirst tree
+pub best_first_of : (tree : KeyTree) → IsOrderedTree tree → IsBestFirst tree
 best_first_of tree o = record { each = λ split leaf key leaf_key first second s l. ordered_on_paths tree split leaf key leaf_key first second o s l }

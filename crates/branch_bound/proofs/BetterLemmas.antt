@@ -16,7 +16,7 @@ use Rattle.tableau.specs.Tableaux.{Tableau}
 use Rattle.branch_bound.specs.Stops.{IsPastLimit, IsMultiplierPastLimit, HasPlanWithin, IsStop}
 use Rattle.branch_bound.specs.Noted.{IsShownSplit}
 use Rattle.branch_bound.specs.inside.Better.{IsNoDearer, IsBetter}
-use Rattle.branch_bound.specs.inside.Grown.{Grown, dead_leaf, whole_leaf, stopped_leaf, waiting_leaf, grown_fork, IsGood}
+use Rattle.branch_bound.specs.inside.Grown.{Grown, dead_leaf, whole_leaf, stopped_leaf, waiting_leaf, grown_fork, IsGoodNode}
 use Rattle.branch_bound.specs.declared.notes.NodeNote.{NodeNote}
 use Rattle.branch_bound.specs.declared.notes.NodeNote.TheVariants.{Fractional, Closed, Dead, Pivots, Wide, Limit, Nodes}
 
@@ -73,7 +73,7 @@ split_along road new old program split Dead b h = absurd h.1
 split_along road new old program split (Nodes trail den point scale mults) b h = absurd h.1
 
 -- what is good stays good where a cheaper plan is found
-pub good_along : (road : Road) (new old : Option Fraction) (grown : Grown) (box : BoxRange) → IsBetter new old → IsGood road old grown box → IsGood road new grown box
+pub good_along : (road : Road) (new old : Option Fraction) (grown : Grown) (box : BoxRange) → IsBetter new old → IsGoodNode road old grown box → IsGoodNode road new grown box
 good_along road new old (dead_leaf mults) box b h = h
 good_along road new old (whole_leaf proved) box b h = (h.0, bound_along new old proved.value proved.scale b h.0.scale_within.from_one h.1)
 good_along road new old (stopped_leaf proved note) box b h =

@@ -18,9 +18,9 @@ use Rattle.tableau.specs.declared.op.Op.{Op}
 use Rattle.simplex.specs.Ends.{IsDead, IsSpent, IsWide, IsOptimum, AreWithin}
 use Rattle.branch_bound.specs.Optima.{exchange_budget}
 use Rattle.branch_bound.specs.inside.Asking.{IsAsked}
-use Rattle.branch_bound.specs.inside.Grown.{dead_leaf, stopped_leaf, waiting_leaf, grown_of, IsGood}
+use Rattle.branch_bound.specs.inside.Grown.{dead_leaf, stopped_leaf, waiting_leaf, grown_of, IsGoodNode}
 use Rattle.branch_bound.specs.inside.Proving.{IsProvedOn, IsGreatestOf}
-use Rattle.branch_bound.specs.inside.Searches.{cost_at, IsBest, IsSolved}
+use Rattle.branch_bound.specs.inside.Searches.{best_cost, IsBest, IsSolvedBox}
 use Rattle.branch_bound.specs.inside.Solving.{AreProving, IsStoppedLeaf, IsStopWith, AreDeadMults, IsEmptyLeaf, IsOptimumOf}
 use Rattle.branch_bound.specs.declared.notes.NodeNote.{NodeNote}
 use Rattle.branch_bound.specs.declared.notes.NodeNote.TheVariants.{Pivots, Wide, Limit}
@@ -87,34 +87,34 @@ module _ (program : Program) (budget : ℕ) (trail : List Exchange) (scale : ℤ
 module _ (road : Road) (best : Option Best) (box : BoxRange) (program : Program) (solved : Solved) (b : IsBest road best) (p : program ≡ box_program road box)
     (same : solved.best ≡ best) where
   stopped_solved : (note : NodeNote) (scale : ℤ) (mults : List ℤ) → IsStoppedLeaf program scale mults note solved.leaf
-      → IsStopWith road (cost_at best) program note scale mults → IsSolved road best box solved
+      → IsStopWith road (best_cost best) program note scale mults → IsSolvedBox road best box solved
   stopped_solved note scale mults s stop =
       let proved_on = subst (λ (q : Program). IsProvedOn q scale mults s.proved) p s.proved_on in
-      let here = subst (λ (q : Program). IsStopWith road (cost_at best) q note scale mults) p stop in
-      solved_same road best box solved b same (stop_good road (cost_at best) box scale mults note s.proved solved.leaf proved_on s.is_stopped here)
+      let here = subst (λ (q : Program). IsStopWith road (best_cost best) q note scale mults) p stop in
+      solved_same road best box solved b same (stop_good road (best_cost best) box scale mults note s.proved solved.leaf proved_on s.is_stopped here)
 
   pub spent_solved : (trail : List Exchange) (scale : ℤ) (mults : List ℤ) → IsStoppedLeaf program scale mults (Pivots trail) solved.leaf
-      → IsSpent program (exchange_budget road) trail scale mults → IsSolved road best box solved
-  spent_solved trail scale mults s h = stopped_solved (Pivots trail) scale mults s (spent_stop road (cost_at best) program trail scale mults h)
+      → IsSpent program (exchange_budget road) trail scale mults → IsSolvedBox road best box solved
+  spent_solved trail scale mults s h = stopped_solved (Pivots trail) scale mults s (spent_stop road (best_cost best) program trail scale mults h)
 
   pub wide_solved : (trail : List Exchange) (op : Op) (scale : ℤ) (mults : List ℤ) → IsStoppedLeaf program scale mults (Wide trail op) solved.leaf
-      → IsWide (2 ^ 127 - 1) program (exchange_budget road) trail op scale mults → IsSolved road best box solved
-  wide_solved trail op scale mults s h = stopped_solved (Wide trail op) scale mults s (wide_stop road (cost_at best) program trail op scale mults h)
+      → IsWide (2 ^ 127 - 1) program (exchange_budget road) trail op scale mults → IsSolvedBox road best box solved
+  wide_solved trail op scale mults s h = stopped_solved (Wide trail op) scale mults s (wide_stop road (best_cost best) program trail op scale mults h)
 
-  pub empty_solved : (trail : List Exchange) (scale : ℤ) (mults : List ℤ) → IsEmptyLeaf road program trail scale mults solved.leaf → IsSolved road best box solved
+  pub empty_solved : (trail : List Exchange) (scale : ℤ) (mults : List ℤ) → IsEmptyLeaf road program trail scale mults solved.leaf → IsSolvedBox road best box solved
   empty_solved trail scale mults h =
       solved_same road best box solved b same
-      (empty_good road (cost_at best) box trail scale mults solved.leaf (subst (λ (q : Program). IsEmptyLeaf road q trail scale mults solved.leaf) p h))
+      (empty_good road (best_cost best) box trail scale mults solved.leaf (subst (λ (q : Program). IsEmptyLeaf road q trail scale mults solved.leaf) p h))
 
 -- ---- a box with an optimum
 
 module _ (road : Road) (best : Option Best) (box : BoxRange) (optimum : Optimum) (proved : Proved) (solved : Solved) (b : IsBest road best)
     (o : IsOptimumOf road box optimum proved) (same : solved.best ≡ best) where
   pub waiting_solved : (split : Split) (leaf : Waiting) → IsAsked road box optimum.den optimum.point split
-      → leaf ≡ record { range = box; split = split; optimum = optimum; proved = proved } → grown_of solved.leaf ≡ waiting_leaf leaf → IsSolved road best box solved
+      → leaf ≡ record { range = box; split = split; optimum = optimum; proved = proved } → grown_of solved.leaf ≡ waiting_leaf leaf → IsSolvedBox road best box solved
   waiting_solved split leaf asked l e =
       let waiting : Waiting = record { range = box; split = split; optimum = optimum; proved = proved } in
-      let good : IsGood road (cost_at best) (waiting_leaf waiting) box = record {
+      let good : IsGoodNode road (best_cost best) (waiting_leaf waiting) box = record {
         range = refl;
         splits = asked.splits;
         asks = asked.asks;
@@ -123,15 +123,15 @@ module _ (road : Road) (best : Option Best) (box : BoxRange) (optimum : Optimum)
         own_bound = proved_is road box optimum.scale optimum.mults proved o.proved_on;
       } in
       solved_same road best box solved b same
-      (leaf_from road (cost_at best) box solved.leaf (waiting_leaf waiting) (e ∙ ap (λ (w : Waiting). waiting_leaf w) l) tt good)
+      (leaf_from road (best_cost best) box solved.leaf (waiting_leaf waiting) (e ∙ ap (λ (w : Waiting). waiting_leaf w) l) tt good)
 
   pub denominator_solved : HasWholeRemovals road optimum.den optimum.point → pos greatest_scale <ℤ optimum.den
-      → grown_of solved.leaf ≡ stopped_leaf proved (Limit optimum.trail optimum.den) → IsSolved road best box solved
+      → grown_of solved.leaf ≡ stopped_leaf proved (Limit optimum.trail optimum.den) → IsSolvedBox road best box solved
   denominator_solved whole past e =
       let t = o.own_optimum.tableau in
       let own = o.own_optimum.own in
       solved_same road best box solved b same
-      (stop_good road (cost_at best) box optimum.scale optimum.mults (Limit optimum.trail optimum.den) proved solved.leaf o.proved_on e (
+      (stop_good road (best_cost best) box optimum.scale optimum.mults (Limit optimum.trail optimum.den) proved solved.leaf o.proved_on e (
         t,
         (
           (

@@ -23,7 +23,7 @@ use Rattle.cert_tree.proofs.Lift.{sound_bounds}
 use Rattle.best_first.proofs.KeyLemmas.{at_most_along}
 use Rattle.branch_bound.specs.Noted.{Noted, low_with, dead_with, fork_with, tree_of, AreShown}
 use Rattle.branch_bound.specs.Endings.{HasPlanAt, IsBelowCost, HasOpenBelow}
-use Rattle.branch_bound.specs.inside.Grown.{Grown, dead_leaf, whole_leaf, stopped_leaf, waiting_leaf, grown_fork, IsGood, IsProved, nodes_note, reaches, cause_of, noted_of}
+use Rattle.branch_bound.specs.inside.Grown.{Grown, dead_leaf, whole_leaf, stopped_leaf, waiting_leaf, grown_fork, IsGoodNode, IsProvedOfBox, nodes_note, reaches, cause_of, noted_of}
 use Rattle.branch_bound.specs.declared.work.Proved.{Proved}
 use Rattle.branch_bound.specs.declared.notes.NodeNote.{NodeNote}
 use Rattle.branch_bound.specs.declared.notes.NodeNote.TheVariants.{Fractional, Closed, Dead, Pivots, Wide, Limit, Nodes}
@@ -78,12 +78,12 @@ pub least_within : (road : Road) (tree : BoxTree) (box : BoxRange) (bound : Opti
 least_within road tree box None h = none_within road tree box h
 least_within road tree box (Some bound) h = within_leaves road tree box bound h.1
 
-low_sound : (road : Road) (bound : Option Fraction) (box : BoxRange) (proved : Proved) (cause : Option Why) → IsProved road box proved
+low_sound : (road : Road) (bound : Option Fraction) (box : BoxRange) (proved : Proved) (cause : Option Why) → IsProvedOfBox road box proved
     → IsWithinLeaves road bound (low proved.scale proved.mults cause) box → IsSound road bound (low proved.scale proved.mults cause) box
 low_sound road bound box proved cause p h = record { scale_within = p.scale_within; mults_sound = p.mults_sound; bounded = h }
 
 -- the tree at the end is sound for every bound within its leaves
-pub sound_at_end : (road : Road) (cost bound : Option Fraction) (grown : Grown) (box : BoxRange) → IsGood road cost grown box
+pub sound_at_end : (road : Road) (cost bound : Option Fraction) (grown : Grown) (box : BoxRange) → IsGoodNode road cost grown box
     → IsWithinLeaves road bound (tree_of (noted_of cost grown)) box → IsSound road bound (tree_of (noted_of cost grown)) box
 sound_at_end road cost bound (dead_leaf mults) box good h = good
 sound_at_end road cost bound (whole_leaf proved) box good h = low_sound road bound box proved None good.0 h
@@ -181,10 +181,10 @@ ends_at_cost road a (Some plan) (Some cost) (Some bound) noted has least sound w
     let den = least.0.positive in
     let free = sound_bounds road a (Some bound) den (tree_of noted) (root_box road) (root_box_fits road a.well_formed) sound plan has.admissible (root_box_covers road plan has.admissible) in
     let is_plan = has.admissible.is_plan in
-    let below = at_most_cost bound cost (cost_of road plan) plan.den is_plan.den den has.lowest.positive has.value.same
+    let below = at_most_cost bound cost (cost_of road plan) plan.den is_plan.den den has.cost_is.lowest.positive has.cost_is.value.same
     (λ less. free (record { is_plan = is_plan; less = less })) in
-    let above = some_above road (tree_of noted) (root_box road) bound cost den has.lowest.positive sound least.2 within in
-    ap (λ (f : Fraction). Some f) (same_lowest_fraction cost bound has.lowest least.0 (int_le_antisymm (cost.num *ℤ bound.den) (bound.num *ℤ cost.den) above below))
+    let above = some_above road (tree_of noted) (root_box road) bound cost den has.cost_is.lowest.positive sound least.2 within in
+    ap (λ (f : Fraction). Some f) (same_lowest_fraction cost bound has.cost_is.lowest least.0 (int_le_antisymm (cost.num *ℤ bound.den) (bound.num *ℤ cost.den) above below))
 
 -- the least of the leaves' bounds is the cost of the plan, or a leaf below it is open; where neither a bound nor a plan is, every leaf is dead
 pub ends_so : (road : Road) → IsAccepted road → (plan : Option Plan) (cost bound : Option Fraction) (count : ℕ) (noted : Noted)

@@ -20,7 +20,7 @@ use Rattle.branch_bound.specs.Searched.{IsSearched}
 use Rattle.branch_bound.specs.Found.{IsFound}
 use Rattle.branch_bound.specs.inside.Grown.{grown_of, noted_of, AreKeys, IsCostKey}
 use Rattle.branch_bound.specs.inside.Least.{IsLeastKey}
-use Rattle.branch_bound.specs.inside.Searches.{cost_at, plan_at, IsBest, IsFinishedSearch}
+use Rattle.branch_bound.specs.inside.Searches.{best_cost, best_plan, IsBest, IsFinishedSearch}
 use Rattle.branch_bound.specs.declared.best.Best.{Best}
 use Rattle.branch_bound.specs.declared.growing.Finished.{Finished}
 use Rattle.branch_bound.specs.declared.finding.Found.{Found}
@@ -32,7 +32,7 @@ use Rattle.branch_bound.proofs.SpelledLaw.{spelled_found}
 use Rattle.branch_bound.proofs.ValidLaw.{valid_search}
 use Rattle.branch_bound.proofs.TextLengths.{cert_length}
 
-pub plan_of_best : (road : Road) (best : Option Best) → IsBest road best → HasPlanAt road (plan_at best) (cost_at best)
+pub plan_of_best : (road : Road) (best : Option Best) → IsBest road best → HasPlanAt road (best_plan best) (best_cost best)
 plan_of_best road None h = tt
 plan_of_best road (Some best) h = h.plan_at
 
@@ -41,15 +41,15 @@ unfolding longest_text
 short_text n h = h
 
 pub found_is : (road : Road) (finished : Finished) (found : Found) → road_fault road ≡ None → IsFinishedSearch road finished
-    → found.cert.plan ≡ plan_at finished.search.best → found.cert.cost ≡ cost_at finished.search.best
+    → found.cert.plan ≡ best_plan finished.search.best → found.cert.cost ≡ best_cost finished.search.best
     → IsLeastKey (grown_of finished.search.work) found.cert.bound
-    → box_tree_of found.cert.tree ≡ tree_of (noted_of (cost_at finished.search.best) (grown_of finished.search.work))
-    → found.notes ≡ notes_of (noted_of (cost_at finished.search.best) (grown_of finished.search.work))
+    → box_tree_of found.cert.tree ≡ tree_of (noted_of (best_cost finished.search.best) (grown_of finished.search.work))
+    → found.notes ≡ notes_of (noted_of (best_cost finished.search.best) (grown_of finished.search.work))
     → found.count ≡ finished.count → IsFound road found
 found_is road finished found accepted h p c bound tree notes count =
-    let cost = cost_at finished.search.best in
+    let cost = best_cost finished.search.best in
     let grown = grown_of finished.search.work in
-    let plan = plan_at finished.search.best in
+    let plan = best_plan finished.search.best in
     let a = IsAccepted-from_fault road accepted in
     let least = least_of_leaves road cost grown (root_box road) found.cert.bound h.search.good bound in
     let all : IsSearched road plan cost found.cert.bound (box_tree_of found.cert.tree) finished.count found.notes =
@@ -77,5 +77,5 @@ found_is road finished found accepted h p c bound tree notes count =
 pub finished_keys : (road : Road) (finished : Finished) → IsFinishedSearch road finished → AreKeys (grown_of finished.search.work)
 finished_keys road finished h = search_keys road finished.search h.search
 
-pub finished_cost : (road : Road) (finished : Finished) (cost : Option Fraction) → IsFinishedSearch road finished → cost ≡ cost_at finished.search.best → IsCostKey cost
+pub finished_cost : (road : Road) (finished : Finished) (cost : Option Fraction) → IsFinishedSearch road finished → cost ≡ best_cost finished.search.best → IsCostKey cost
 finished_cost road finished cost h e = subst IsCostKey (sym e) (cost_key road finished.search.best h.search.best_is)

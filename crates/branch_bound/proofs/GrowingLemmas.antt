@@ -10,9 +10,9 @@ use Rattle.milp_builder.specs.Parts.{first_part, second_part}
 use Rattle.milp_builder.specs.declared.boxes.BoxRange.{BoxRange}
 use Rattle.best_first.specs.Keys.{IsAtMost, key_at, IsFirstLeast}
 use Rattle.best_first.specs.KeyTrees.{KeyTree, ended, open_leaf, parted}
-use Rattle.best_first.specs.inside.Covers.{IsOrdered, IsAtMostOpen, IsLeaf, IsSplitOnce, open_keys}
+use Rattle.best_first.specs.inside.Covers.{IsOrderedTree, IsAtMostOpen, IsLeaf, IsSplitOnce, open_keys}
 use Rattle.best_first.proofs.OrderLemmas.{ordered_split}
-use Rattle.branch_bound.specs.inside.Grown.{Grown, dead_leaf, whole_leaf, stopped_leaf, waiting_leaf, grown_fork, IsGood, proved_key, keys_of, IsGrownLeaf, node_total, waiting_count, waiting_at, parted_at}
+use Rattle.branch_bound.specs.inside.Grown.{Grown, dead_leaf, whole_leaf, stopped_leaf, waiting_leaf, grown_fork, IsGoodNode, proved_key, keys_of, IsGrownLeaf, node_total, waiting_count, waiting_at, parted_at}
 use Rattle.branch_bound.specs.declared.work.Waiting.{Waiting}
 
 leaf_keys : (leaf : Grown) → IsGrownLeaf leaf → IsLeaf (keys_of leaf)
@@ -52,11 +52,11 @@ both_tests P false x y u v h k = k refl
 module _ (road : Road) (cost : Option Fraction) (one two : Grown) where
   -- the two new leaves are good on the parts of the leaf that they replace
   pub record AreGoodParts (leaf : Waiting) : Type 0 where
-    pub first : IsGood road cost one (first_part leaf.range leaf.split)
-    pub second : IsGood road cost two (second_part leaf.range leaf.split)
+    pub first : IsGoodNode road cost one (first_part leaf.range leaf.split)
+    pub second : IsGoodNode road cost two (second_part leaf.range leaf.split)
 
-  pub good_parted : (grown : Grown) (box : BoxRange) (at : ℕ) (leaf : Waiting) → IsGood road cost grown box
-      → waiting_at grown at ≡ Some leaf → AreGoodParts leaf → IsGood road cost (parted_at grown at one two) box
+  pub good_parted : (grown : Grown) (box : BoxRange) (at : ℕ) (leaf : Waiting) → IsGoodNode road cost grown box
+      → waiting_at grown at ≡ Some leaf → AreGoodParts leaf → IsGoodNode road cost (parted_at grown at one two) box
   good_parted (dead_leaf mults) box at leaf good e parts = cc
   good_parted (whole_leaf proved) box at leaf good e parts = cc
   good_parted (stopped_leaf proved note) box at leaf good e parts = cc
@@ -66,11 +66,11 @@ module _ (road : Road) (cost : Option Fraction) (one two : Grown) where
         good.splits,
         (good.optimum, good.asks),
         good.narrow_key,
-        subst (λ (b : BoxRange). IsGood road cost one (first_part b own.split)) good.range mine.first,
-        subst (λ (b : BoxRange). IsGood road cost two (second_part b own.split)) good.range mine.second,
+        subst (λ (b : BoxRange). IsGoodNode road cost one (first_part b own.split)) good.range mine.first,
+        subst (λ (b : BoxRange). IsGoodNode road cost two (second_part b own.split)) good.range mine.second,
       )
   good_parted (grown_fork split note key first second) box at leaf good e parts =
-      let P : Option Waiting → Grown → Type 0 = λ found new. found ≡ Some leaf → IsGood road cost new box in
+      let P : Option Waiting → Grown → Type 0 = λ found new. found ≡ Some leaf → IsGoodNode road cost new box in
       both_tests P (nat_lt at (waiting_count first)) (waiting_at first at) (waiting_at second (at - waiting_count first))
       (grown_fork split note key (parted_at first at one two) second) (grown_fork split note key first (parted_at second (at - waiting_count first) one two))
       (λ t f. (good.0, good.1, good.2, good_parted first (first_part box split) at leaf good.3 f parts, good.4))
@@ -169,7 +169,7 @@ waiting_found (grown_fork split note key first second) at h =
 -- splitting the waiting leaf of the first least key keeps the order of the keys
 pub ordered_parted : (road : Road) (cost : Option Fraction) (one two grown : Grown) (at : ℕ) (leaf : Waiting) → IsGrownLeaf one → IsGrownLeaf two
     → waiting_at grown at ≡ Some leaf → key_at (open_keys (keys_of grown)) at ≡ proved_key leaf.proved
-    → IsFirstLeast (open_keys (keys_of grown)) at → IsOrdered (keys_of grown) → IsOrdered (keys_of (parted_at grown at one two))
+    → IsFirstLeast (open_keys (keys_of grown)) at → IsOrderedTree (keys_of grown) → IsOrderedTree (keys_of (parted_at grown at one two))
 ordered_parted road cost one two grown at leaf leaf_one leaf_two e key_is least ordered =
     ordered_split (proved_key leaf.proved) (keys_of grown) (keys_of (parted_at grown at one two))
     (keys_parted road cost one two leaf_one leaf_two grown at leaf e)

@@ -8,7 +8,7 @@ use Rattle.milp_builder.specs.declared.boxes.BoxRange.{BoxRange}
 use Rattle.cert_tree.specs.Soundness.{box_value, has_low}
 use Rattle.cert_tree.specs.LeastBounds.{IsAtMostLeaves, IsOfSomeLeaf, IsLeastOfLeaves}
 use Rattle.branch_bound.specs.Noted.{low_with, tree_of}
-use Rattle.branch_bound.specs.inside.Grown.{Grown, dead_leaf, whole_leaf, stopped_leaf, waiting_leaf, grown_fork, IsGood, IsProved, proved_key, nodes_note, reaches, cause_of, low_keys, noted_of, AreKeys}
+use Rattle.branch_bound.specs.inside.Grown.{Grown, dead_leaf, whole_leaf, stopped_leaf, waiting_leaf, grown_fork, IsGoodNode, IsProvedOfBox, proved_key, nodes_note, reaches, cause_of, low_keys, noted_of, AreKeys}
 use Rattle.branch_bound.specs.inside.Least.{IsAtMostLow, IsOfLow, IsLeastKey, IsLeastFraction}
 use Rattle.branch_bound.specs.declared.work.Proved.{Proved}
 use Rattle.branch_bound.specs.declared.notes.NodeNote.TheVariants.{Closed}
@@ -23,11 +23,11 @@ use Rattle.best_first.proofs.KeyLemmas.{at_most_along}
 use Rattle.branch_bound.proofs.GrowingLemmas.{at_either}
 use Rattle.branch_bound.proofs.LowestKeys.{key_of_value}
 
-leaf_at_most : (road : Road) (bound : Fraction) (box : BoxRange) (proved : Proved) → IsProved road box proved
+leaf_at_most : (road : Road) (bound : Fraction) (box : BoxRange) (proved : Proved) → IsProvedOfBox road box proved
     → (bound.num *ℤ proved.scale) ≤ℤ (proved.value *ℤ bound.den) → (bound.num *ℤ proved.scale) ≤ℤ (box_value road box proved.scale proved.mults *ℤ bound.den)
 leaf_at_most road bound box proved p h = subst (λ (v : ℤ). (bound.num *ℤ proved.scale) ≤ℤ (v *ℤ bound.den)) p.value_is h
 
-pub at_most_leaves : (road : Road) (cost : Option Fraction) (bound : Fraction) (grown : Grown) (box : BoxRange) → IsGood road cost grown box
+pub at_most_leaves : (road : Road) (cost : Option Fraction) (bound : Fraction) (grown : Grown) (box : BoxRange) → IsGoodNode road cost grown box
     → IsAtMostLow bound grown → IsAtMostLeaves road bound (tree_of (noted_of cost grown)) box
 at_most_leaves road cost bound (dead_leaf mults) box good h = tt
 at_most_leaves road cost bound (whole_leaf proved) box good h = leaf_at_most road bound box proved good.0 h
@@ -42,11 +42,11 @@ at_most_leaves road cost bound (waiting_leaf leaf) box good h =
 at_most_leaves road cost bound (grown_fork split note key first second) box good h =
     (at_most_leaves road cost bound first (first_part box split) good.3 h.0, at_most_leaves road cost bound second (second_part box split) good.4 h.1)
 
-leaf_is : (road : Road) (bound : Fraction) (box : BoxRange) (proved : Proved) → IsProved road box proved
+leaf_is : (road : Road) (bound : Fraction) (box : BoxRange) (proved : Proved) → IsProvedOfBox road box proved
     → bound.num *ℤ proved.scale ≡ proved.value *ℤ bound.den → bound.num *ℤ proved.scale ≡ box_value road box proved.scale proved.mults *ℤ bound.den
 leaf_is road bound box proved p h = subst (λ (v : ℤ). bound.num *ℤ proved.scale ≡ v *ℤ bound.den) p.value_is h
 
-pub of_some_leaf : (road : Road) (cost : Option Fraction) (bound : Fraction) (grown : Grown) (box : BoxRange) → IsGood road cost grown box
+pub of_some_leaf : (road : Road) (cost : Option Fraction) (bound : Fraction) (grown : Grown) (box : BoxRange) → IsGoodNode road cost grown box
     → IsOfLow bound grown → IsOfSomeLeaf road bound (tree_of (noted_of cost grown)) box
 of_some_leaf road cost bound (dead_leaf mults) box good h = absurd h
 of_some_leaf road cost bound (whole_leaf proved) box good h = leaf_is road bound box proved good.0 h
@@ -114,7 +114,7 @@ none_low cost (grown_fork split note key first second) e =
     let two = none_low cost second both.1 in
     ap (λ (b : Bool). b || has_low (tree_of (noted_of cost second))) one ∙ two
 
-pub least_of_leaves : (road : Road) (cost : Option Fraction) (grown : Grown) (box : BoxRange) (bound : Option Fraction) → IsGood road cost grown box
+pub least_of_leaves : (road : Road) (cost : Option Fraction) (grown : Grown) (box : BoxRange) (bound : Option Fraction) → IsGoodNode road cost grown box
     → IsLeastKey grown bound → IsLeastOfLeaves road (tree_of (noted_of cost grown)) box bound
 least_of_leaves road cost grown box None good h = none_low cost grown h
 least_of_leaves road cost grown box (Some bound) good h =

@@ -20,7 +20,7 @@ use Rattle.milp_builder.proofs.BoxLaws.{plans_are_points}
 use Rattle.milp_builder.proofs.BoxLimits.{box_within_limits}
 use Rattle.branch_bound.specs.Endings.{IsPlanAt}
 use Rattle.branch_bound.specs.inside.Asking.{AsksForNothing}
-use Rattle.branch_bound.specs.inside.Solving.{IsPriced}
+use Rattle.branch_bound.specs.inside.Solving.{IsPricedBest}
 use Rattle.branch_bound.specs.declared.best.Best.{Best}
 use Rattle.branch_bound.proofs.LowestKeys.{key_of_value}
 use Rattle.branch_bound.proofs.PlanWidths.{cost_width}
@@ -41,7 +41,7 @@ some_plan road box den point d asked h =
 
 pub priced_plan : (road : Road) (box : BoxRange) (den : ℤ) (point : List ℤ) (plan : Plan) (found : Best) → road_fault road ≡ None → IsBoxOf road box → IsScale den
     → IsPoint (box_program road box) den point → IsPlanOfPoint road box den point plan → found.plan ≡ plan
-    → HasValue found.cost (cost_of road plan) plan.den → IsLowest found.cost → IsPriced road (box_program road box) den point found
+    → HasValue found.cost (cost_of road plan) plan.den → IsLowest found.cost → IsPricedBest road (box_program road box) den point found
 priced_plan road box den point plan found accepted fits d is_point p e v lowest =
     let a = IsAccepted-from_fault road accepted in
     let cost_is : cost_of_point (box_program road box) point ≡ cost_of road plan =
@@ -52,8 +52,7 @@ priced_plan road box den point plan found accepted fits d is_point p e v lowest 
     let key = key_of_value found.cost (cost_of road plan) den lowest v' (record { value = width; scale = d }) in
     let at : IsPlanAt road found.plan found.cost = record {
       admissible = subst (IsAdmissible road) (sym e) p.admissible;
-      lowest = lowest;
-      value = subst (λ (q : Plan). HasValue found.cost (cost_of road q) q.den) (sym e) v;
+      cost_is = record { lowest = lowest; value = subst (λ (q : Plan). HasValue found.cost (cost_of road q) q.den) (sym e) v };
     } in
     record {
       is_best = record { plan_at = at; cost_key = key; den_within = subst (λ (q : Plan). IsScale q.den) (sym e) (subst IsScale (sym p.den_is) d) };

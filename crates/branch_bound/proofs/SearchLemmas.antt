@@ -12,8 +12,8 @@ use Rattle.milp_builder.specs.declared.boxes.Split.{Split}
 use Rattle.milp_builder.proofs.Cover.{found_parts_cover}
 use Rattle.milp_builder.proofs.RootBox.{root_box_fits}
 use Rattle.branch_bound.specs.inside.Better.{IsBetter}
-use Rattle.branch_bound.specs.inside.Grown.{Grown, dead_leaf, whole_leaf, stopped_leaf, waiting_leaf, grown_fork, grown_of, IsGood, IsWaiting, IsGrownLeaf, keys_of, node_total, waiting_count, waiting_at, parted_at, proved_key, AreKeys, AllReach, IsProved, IsCostKey}
-use Rattle.branch_bound.specs.inside.Searches.{cost_at, IsBest, IsSolved, AreSolved, IsSearch, IsFinishedSearch, IsNext, IsPartsOf}
+use Rattle.branch_bound.specs.inside.Grown.{Grown, dead_leaf, whole_leaf, stopped_leaf, waiting_leaf, grown_fork, grown_of, IsGoodNode, IsWaiting, IsGrownLeaf, keys_of, node_total, waiting_count, waiting_at, parted_at, proved_key, AreKeys, AllReach, IsProvedOfBox, IsCostKey}
+use Rattle.branch_bound.specs.inside.Searches.{best_cost, IsBest, IsSolvedBox, AreSolved, IsSearch, IsFinishedSearch, IsNext, IsPartsOf}
 use Rattle.branch_bound.specs.declared.work.Waiting.{Waiting}
 use Rattle.branch_bound.specs.declared.best.Best.{Best}
 use Rattle.branch_bound.specs.declared.growing.Search.{Search}
@@ -24,7 +24,7 @@ use Rattle.branch_bound.specs.declared.best.Solved.{Solved}
 use Rattle.branch_bound.specs.declared.growing.SolvedParts.{SolvedParts}
 use Rattle.branch_bound.proofs.BetterLemmas.{good_along, better_along}
 use Rattle.branch_bound.proofs.GrowingLemmas.{at_either, good_parted, ordered_parted, total_parted, waiting_found, open_count}
-use Rattle.best_first.specs.inside.Covers.{IsOrdered, IsAtMostOpen, open_keys}
+use Rattle.best_first.specs.inside.Covers.{IsOrderedTree, IsAtMostOpen, open_keys}
 use Rattle.best_first.specs.Keys.{IsKey, IsFirstLeast}
 use Rattle.std.specs.List.{All}
 use Rattle.std.proofs.lemmas.List.Elements.{All-nil, All-cons, All-append}
@@ -39,14 +39,14 @@ test_from_le : (a b : ℤ) → a ≤ℤ b → int_le a b ≡ true
 test_from_le a b e = grind (arith, ints)
 
 pub both_solved : (road : Road) (best : Option Best) (first second : BoxRange) (one two : Solved) (solved : SolvedParts)
-    → IsSolved road best first one → IsSolved road one.best second two
+    → IsSolvedBox road best first one → IsSolvedBox road one.best second two
     → solved.first ≡ one.leaf → solved.second ≡ two.leaf → solved.best ≡ two.best → AreSolved road best first second solved
 both_solved road best first second one two solved h k e f g =
-    let P : Option Best → Type 0 = λ b. IsBest road b × IsBetter (cost_at b) (cost_at best) × IsGood road (cost_at b) (grown_of one.leaf) first × IsGood road (cost_at b) (grown_of two.leaf) second in
+    let P : Option Best → Type 0 = λ b. IsBest road b × IsBetter (best_cost b) (best_cost best) × IsGoodNode road (best_cost b) (grown_of one.leaf) first × IsGoodNode road (best_cost b) (grown_of two.leaf) second in
     let all : P solved.best = subst P (sym g) (
       k.best_is,
-      better_along (cost_at two.best) (cost_at one.best) (cost_at best) k.better h.better,
-      good_along road (cost_at two.best) (cost_at one.best) (grown_of one.leaf) first k.better h.good,
+      better_along (best_cost two.best) (best_cost one.best) (best_cost best) k.better h.better,
+      good_along road (best_cost two.best) (best_cost one.best) (grown_of one.leaf) first k.better h.good,
       k.good,
     ) in
     record {
@@ -54,8 +54,8 @@ both_solved road best first second one two solved h k e f g =
       better = all.1;
       first_leaf = subst (λ w. IsGrownLeaf (grown_of w)) (sym e) h.is_leaf;
       second_leaf = subst (λ w. IsGrownLeaf (grown_of w)) (sym f) k.is_leaf;
-      first_good = subst (λ w. IsGood road (cost_at solved.best) (grown_of w) first) (sym e) all.2;
-      second_good = subst (λ w. IsGood road (cost_at solved.best) (grown_of w) second) (sym f) all.3;
+      first_good = subst (λ w. IsGoodNode road (best_cost solved.best) (grown_of w) first) (sym e) all.2;
+      second_good = subst (λ w. IsGoodNode road (best_cost solved.best) (grown_of w) second) (sym f) all.3;
     }
 
 -- a waiting leaf of a good tree is as it says, on a box that fits
@@ -64,7 +64,7 @@ pub record IsWaitingBox (road : Road) (leaf : Waiting) : Type 0 where
   pub fits : IsBoxOf road leaf.range
 
 pub waiting_in : (road : Road) (cost : Option Fraction) (grown : Grown) (box : BoxRange) (at : ℕ) (leaf : Waiting) → IsBoxOf road box
-    → IsGood road cost grown box → waiting_at grown at ≡ Some leaf → IsWaitingBox road leaf
+    → IsGoodNode road cost grown box → waiting_at grown at ≡ Some leaf → IsWaitingBox road leaf
 waiting_in road cost (dead_leaf mults) box at leaf fits good e = cc
 waiting_in road cost (whole_leaf proved) box at leaf fits good e = cc
 waiting_in road cost (stopped_leaf proved note) box at leaf fits good e = cc
@@ -85,7 +85,7 @@ waiting_in road cost (grown_fork split note key first second) box at leaf fits g
 pub waiting_box : (road : Road) (search : Search) (at : ℕ) (leaf : Waiting) → road_fault road ≡ None → IsSearch road search
     → waiting_at (grown_of search.work) at ≡ Some leaf → IsWaitingBox road leaf
 waiting_box road search at leaf accepted h e =
-    waiting_in road (cost_at search.best) (grown_of search.work) (root_box road) at leaf
+    waiting_in road (best_cost search.best) (grown_of search.work) (root_box road) at leaf
     (root_box_fits road (IsAccepted-from_fault road accepted).well_formed) h.good e
 
 pub parts_fit : (road : Road) (search : Search) (at : ℕ) (leaf : Waiting) (pair : BoxRange × BoxRange) → road_fault road ≡ None → IsSearch road search
@@ -112,18 +112,18 @@ module _ (road : Road) (search after : Search) (at : ℕ) (first second : BoxRan
   old = grown_of search.work
 
   abbrev cost : Option Fraction
-  cost = cost_at solved.best
+  cost = best_cost solved.best
 
-  good_after : IsGood road cost (parted_at old at (grown_of solved.first) (grown_of solved.second)) (root_box road)
+  good_after : IsGoodNode road cost (parted_at old at (grown_of solved.first) (grown_of solved.second)) (root_box road)
   good_after =
       good_parted road cost (grown_of solved.first) (grown_of solved.second) old (root_box road) at p.leaf
-      (good_along road cost (cost_at search.best) old (root_box road) s.better h.good) p.found
+      (good_along road cost (best_cost search.best) old (root_box road) s.better h.good) p.found
       (record {
-        first = subst (λ (b : BoxRange). IsGood road cost (grown_of solved.first) b) p.first_is s.first_good;
-        second = subst (λ (b : BoxRange). IsGood road cost (grown_of solved.second) b) p.second_is s.second_good;
+        first = subst (λ (b : BoxRange). IsGoodNode road cost (grown_of solved.first) b) p.first_is s.first_good;
+        second = subst (λ (b : BoxRange). IsGoodNode road cost (grown_of solved.second) b) p.second_is s.second_good;
       })
 
-  ordered_after : IsOrdered (keys_of (parted_at old at (grown_of solved.first) (grown_of solved.second)))
+  ordered_after : IsOrderedTree (keys_of (parted_at old at (grown_of solved.first) (grown_of solved.second)))
   ordered_after =
       let w = waiting_found old at n.within in
       let same : w.leaf ≡ p.leaf = some_same w.leaf p.leaf (sym w.found ∙ p.found) in
@@ -133,9 +133,9 @@ module _ (road : Road) (search after : Search) (at : ℕ) (first second : BoxRan
   pub search_after : IsSearch road after
   search_after = record {
     best_is = subst (λ (b : Option Best). IsBest road b) (sym e.best_is) s.best_is;
-    good = subst (λ (b : Option Best). IsGood road (cost_at b) (grown_of after.work) (root_box road)) (sym e.best_is)
-        (subst (λ (g : Grown). IsGood road cost g (root_box road)) (sym e.work_is) good_after);
-    ordered = subst (λ (g : Grown). IsOrdered (keys_of g)) (sym e.work_is) ordered_after;
+    good = subst (λ (b : Option Best). IsGoodNode road (best_cost b) (grown_of after.work) (root_box road)) (sym e.best_is)
+        (subst (λ (g : Grown). IsGoodNode road cost g (root_box road)) (sym e.work_is) good_after);
+    ordered = subst (λ (g : Grown). IsOrderedTree (keys_of g)) (sym e.work_is) ordered_after;
   }
 
   pub total_after : node_total (grown_of after.work) ≡ node_total old + 2
@@ -177,10 +177,10 @@ none_waits cost (waiting_leaf leaf) h = absurd (omega arith)
 none_waits cost (grown_fork split note key first second) h = (none_waits cost first (omega arith), none_waits cost second (omega arith))
 
 -- a good tree has keys
-key_of_proved : (road : Road) (box : BoxRange) (proved : Proved) → IsProved road box proved → IsKey (proved_key proved)
+key_of_proved : (road : Road) (box : BoxRange) (proved : Proved) → IsProvedOfBox road box proved → IsKey (proved_key proved)
 key_of_proved road box proved h = record { value = h.value_within; scale = h.scale_within }
 
-pub keys_of_good : (road : Road) (cost : Option Fraction) (grown : Grown) (box : BoxRange) → IsGood road cost grown box → AreKeys grown
+pub keys_of_good : (road : Road) (cost : Option Fraction) (grown : Grown) (box : BoxRange) → IsGoodNode road cost grown box → AreKeys grown
 keys_of_good road cost (dead_leaf mults) box good = tt
 keys_of_good road cost (whole_leaf proved) box good = key_of_proved road box proved good.0
 keys_of_good road cost (stopped_leaf proved note) box good = key_of_proved road box proved good.0
@@ -189,10 +189,10 @@ keys_of_good road cost (grown_fork split note key first second) box good =
     (keys_of_good road cost first (first_part box split) good.3, keys_of_good road cost second (second_part box split) good.4)
 
 pub search_keys : (road : Road) (search : Search) → IsSearch road search → AreKeys (grown_of search.work)
-search_keys road search h = keys_of_good road (cost_at search.best) (grown_of search.work) (root_box road) h.good
+search_keys road search h = keys_of_good road (best_cost search.best) (grown_of search.work) (root_box road) h.good
 
 -- the cost of the best plan is that of a key
-pub cost_key : (road : Road) (best : Option Best) → IsBest road best → IsCostKey (cost_at best)
+pub cost_key : (road : Road) (best : Option Best) → IsBest road best → IsCostKey (best_cost best)
 cost_key road None h = tt
 cost_key road (Some best) h = h.cost_key
 
@@ -212,25 +212,25 @@ leaf_total (stopped_leaf proved note) h = refl
 leaf_total (waiting_leaf leaf) h = refl
 leaf_total (grown_fork split note key first second) h = absurd h
 
-leaf_ordered : (leaf : Grown) → IsGrownLeaf leaf → IsOrdered (keys_of leaf)
+leaf_ordered : (leaf : Grown) → IsGrownLeaf leaf → IsOrderedTree (keys_of leaf)
 leaf_ordered (dead_leaf mults) h = tt
 leaf_ordered (whole_leaf proved) h = tt
 leaf_ordered (stopped_leaf proved note) h = tt
 leaf_ordered (waiting_leaf leaf) h = tt
 leaf_ordered (grown_fork split note key first second) h = absurd h
 
-pub begun : (road : Road) (old : Option Best) (box : BoxRange) (solved : Solved) (search : Search) → box ≡ root_box road → IsSolved road old box solved
+pub begun : (road : Road) (old : Option Best) (box : BoxRange) (solved : Solved) (search : Search) → box ≡ root_box road → IsSolvedBox road old box solved
     → search.work ≡ solved.leaf → search.best ≡ solved.best → IsSearch road search
 begun road old box solved search b h w e =
-    let good = subst (λ (r : BoxRange). IsGood road (cost_at solved.best) (grown_of solved.leaf) r) b h.good in
-    let here = subst (λ (x : Work). IsGood road (cost_at solved.best) (grown_of x) (root_box road)) (sym w) good in
+    let good = subst (λ (r : BoxRange). IsGoodNode road (best_cost solved.best) (grown_of solved.leaf) r) b h.good in
+    let here = subst (λ (x : Work). IsGoodNode road (best_cost solved.best) (grown_of x) (root_box road)) (sym w) good in
     record {
       best_is = subst (λ (x : Option Best). IsBest road x) (sym e) h.best_is;
-      good = subst (λ (x : Option Best). IsGood road (cost_at x) (grown_of search.work) (root_box road)) (sym e) here;
-      ordered = subst (λ (x : Work). IsOrdered (keys_of (grown_of x))) (sym w) (leaf_ordered (grown_of solved.leaf) h.is_leaf);
+      good = subst (λ (x : Option Best). IsGoodNode road (best_cost x) (grown_of search.work) (root_box road)) (sym e) here;
+      ordered = subst (λ (x : Work). IsOrderedTree (keys_of (grown_of x))) (sym w) (leaf_ordered (grown_of solved.leaf) h.is_leaf);
     }
 
-pub begun_total : (road : Road) (old : Option Best) (box : BoxRange) (solved : Solved) (search : Search) → IsSolved road old box solved
+pub begun_total : (road : Road) (old : Option Best) (box : BoxRange) (solved : Solved) (search : Search) → IsSolvedBox road old box solved
     → search.work ≡ solved.leaf → node_total (grown_of search.work) ≡ 1
 begun_total road old box solved search h w = ap (λ (x : Work). node_total (grown_of x)) w ∙ leaf_total (grown_of solved.leaf) h.is_leaf
 
@@ -240,12 +240,12 @@ pub finished_budget : (road : Road) (finished : Finished) (most : ℕ) → IsSea
 finished_budget road finished most h n e l b = record { search = h; counted = n; within = omega (arith, ints); ended = inl (omega (arith, ints)) }
 
 pub finished_reach : (road : Road) (finished : Finished) (most : ℕ) → IsSearch road finished.search → node_total (grown_of finished.search.work) ≡ finished.count
-    → pos most ≡ road.nodes → finished.count ≤ most → AllReach (cost_at finished.search.best) (grown_of finished.search.work) → IsFinishedSearch road finished
+    → pos most ≡ road.nodes → finished.count ≤ most → AllReach (best_cost finished.search.best) (grown_of finished.search.work) → IsFinishedSearch road finished
 finished_reach road finished most h n e l r = record { search = h; counted = n; within = omega (arith, ints); ended = inr r }
 
 -- the parts of a waiting leaf's box can be made
 pub no_parts : (road : Road) (box : BoxRange) (split : Split) (found : Option (BoxRange × BoxRange)) → found ≡ None → AreParts road box split found → IsSplitOf road box split → ⊥
 no_parts road box split found e parts splits = (subst (λ (o : Option (BoxRange × BoxRange)). AreParts road box split o) e parts) splits
 
-pub search_cost : (road : Road) (search : Search) → IsSearch road search → IsCostKey (cost_at search.best)
+pub search_cost : (road : Road) (search : Search) → IsSearch road search → IsCostKey (best_cost search.best)
 search_cost road search h = cost_key road search.best h.best_is

@@ -7,21 +7,21 @@ use Rattle.road_types.specs.declared.road.Road.{Road}
 use Rattle.plan_rules.specs.declared.plan.Plan.{Plan}
 use Rattle.milp_builder.specs.Boxes.{root_box}
 use Rattle.cert_tree.specs.Trees.{BoxTree, node_count}
-use Rattle.best_first.specs.inside.Covers.{IsOrdered}
+use Rattle.best_first.specs.inside.Covers.{IsOrderedTree}
 use Rattle.best_first.proofs.OrderLemmas.{ordered_ended}
 use Rattle.best_first.proofs.PathLemmas.{best_first_of}
 use Rattle.branch_bound.specs.Noted.{Noted, tree_of, notes_of, AreShown}
 use Rattle.cert_tree.specs.LeastBounds.{IsLeastOfLeaves}
 use Rattle.branch_bound.specs.Endings.{HasPlanAt}
 use Rattle.branch_bound.specs.Searched.{IsSearched}
-use Rattle.branch_bound.specs.inside.Grown.{Grown, IsGood, keys_of, node_total, noted_of, IsFinished}
+use Rattle.branch_bound.specs.inside.Grown.{Grown, IsGoodNode, keys_of, node_total, noted_of, IsFinished}
 use Rattle.branch_bound.specs.declared.notes.NodeNote.{NodeNote}
 use Rattle.branch_bound.proofs.SettlingLemmas.{shown_at_end, count_at_end, end_keys, keys_ended, keys_at_end}
 use Rattle.branch_bound.proofs.EndingLemmas.{least_within, sound_at_end, ends_so}
 use Rattle.branch_bound.proofs.EnoughNodes.{splits_of_sound, none_open}
 
 module _ (road : Road) (a : IsAccepted road) (plan : Option Plan) (cost bound : Option Fraction) (grown : Grown) (count : ℕ)
-    (has_plan : HasPlanAt road plan cost) (good : IsGood road cost grown (root_box road)) (ordered : IsOrdered (keys_of grown))
+    (has_plan : HasPlanAt road plan cost) (good : IsGoodNode road cost grown (root_box road)) (ordered : IsOrderedTree (keys_of grown))
     (counted : node_total grown ≡ count) (within : pos count ≤ℤ road.nodes) (finished : IsFinished road cost count grown)
     (least : IsLeastOfLeaves road (tree_of (noted_of cost grown)) (root_box road) bound) where
   abbrev noted : Noted

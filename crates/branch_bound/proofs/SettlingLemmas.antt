@@ -16,7 +16,7 @@ use Rattle.best_first.specs.KeyTrees.{KeyTree, ended, open_leaf, parted}
 use Rattle.best_first.specs.inside.Covers.{IsEndedInPart}
 use Rattle.best_first.proofs.KeyLemmas.{at_most_itself}
 use Rattle.branch_bound.specs.Noted.{Noted, low_with, tree_of, IsShownStop, AreShown, HaveKeys}
-use Rattle.branch_bound.specs.inside.Grown.{Grown, dead_leaf, whole_leaf, stopped_leaf, waiting_leaf, grown_fork, IsGood, IsProved, IsWaiting, proved_key, keys_of, node_total, nodes_note, reaches, cause_of, noted_of, IsFinished}
+use Rattle.branch_bound.specs.inside.Grown.{Grown, dead_leaf, whole_leaf, stopped_leaf, waiting_leaf, grown_fork, IsGoodNode, IsProvedOfBox, IsWaiting, proved_key, keys_of, node_total, nodes_note, reaches, cause_of, noted_of, IsFinished}
 use Rattle.branch_bound.specs.declared.work.Proved.{Proved}
 use Rattle.branch_bound.specs.declared.work.Waiting.{Waiting}
 use Rattle.branch_bound.specs.declared.notes.NodeNote.{NodeNote}
@@ -36,11 +36,11 @@ at_test P false x y h k = k refl
 
 module _ (road : Road) (cost : Option Fraction) (count : ℕ) where
   -- a closed leaf
-  closed_shown : (box : BoxRange) (proved : Proved) → IsProved road box proved → IsAtLeastBound proved.value proved.scale cost
+  closed_shown : (box : BoxRange) (proved : Proved) → IsProvedOfBox road box proved → IsAtLeastBound proved.value proved.scale cost
       → AreShown road cost count (low_with proved.scale proved.mults None Closed) box
   closed_shown box proved p h = (refl, subst (λ (v : ℤ). IsAtLeastBound v proved.scale cost) p.value_is h)
 
-  stop_shown : (box : BoxRange) (proved : Proved) (note : NodeNote) → IsProved road box proved → IsShownStop road cost (box_program road box) note (proved_key proved)
+  stop_shown : (box : BoxRange) (proved : Proved) (note : NodeNote) → IsProvedOfBox road box proved → IsShownStop road cost (box_program road box) note (proved_key proved)
       → AreShown road cost count (low_with proved.scale proved.mults (Some (cause_of note)) note) box
   stop_shown box proved (Pivots trail) p h = (refl, subst (λ (v : ℤ). IsShownStop road cost (box_program road box) (Pivots trail) (v, proved.scale)) p.value_is h)
   stop_shown box proved (Wide trail op) p h = (refl, subst (λ (v : ℤ). IsShownStop road cost (box_program road box) (Wide trail op) (v, proved.scale)) p.value_is h)
@@ -62,7 +62,7 @@ module _ (road : Road) (cost : Option Fraction) (count : ℕ) where
         (proved_key leaf.proved, (w.narrow_key, own)),
       )
 
-  pub shown_at_end : (grown : Grown) (box : BoxRange) → IsGood road cost grown box → IsFinished road cost count grown → AreShown road cost count (noted_of cost grown) box
+  pub shown_at_end : (grown : Grown) (box : BoxRange) → IsGoodNode road cost grown box → IsFinished road cost count grown → AreShown road cost count (noted_of cost grown) box
   shown_at_end (dead_leaf mults) box good done = refl
   shown_at_end (whole_leaf proved) box good done = closed_shown box proved good.0 good.1
   shown_at_end (stopped_leaf proved note) box good done =
@@ -125,7 +125,7 @@ stop_has_none road box proved Dead = refl
 stop_has_none road box proved (Fractional trail den point scale mults) = refl
 stop_has_none road box proved (Nodes trail den point scale mults) = refl
 
-pub keys_at_end : (road : Road) (cost : Option Fraction) (grown : Grown) (box : BoxRange) → IsGood road cost grown box → HaveKeys road (noted_of cost grown) box (end_keys cost grown)
+pub keys_at_end : (road : Road) (cost : Option Fraction) (grown : Grown) (box : BoxRange) → IsGoodNode road cost grown box → HaveKeys road (noted_of cost grown) box (end_keys cost grown)
 keys_at_end road cost (dead_leaf mults) box good = refl
 keys_at_end road cost (whole_leaf proved) box good = refl
 keys_at_end road cost (stopped_leaf proved note) box good =

@@ -30,10 +30,10 @@ use Rattle.best_first.proofs.KeyLemmas.{at_most_itself}
 use Rattle.branch_bound.specs.Optima.{exchange_budget}
 use Rattle.branch_bound.specs.NoteKeys.{IsNarrowKey}
 use Rattle.branch_bound.specs.inside.Better.{IsNoDearer, IsBetter}
-use Rattle.branch_bound.specs.inside.Grown.{Grown, dead_leaf, stopped_leaf, grown_of, IsGrownLeaf, IsGood, IsProved}
+use Rattle.branch_bound.specs.inside.Grown.{Grown, dead_leaf, stopped_leaf, grown_of, IsGrownLeaf, IsGoodNode, IsProvedOfBox}
 use Rattle.branch_bound.specs.inside.Proving.{IsProvedOn}
-use Rattle.branch_bound.specs.inside.Searches.{cost_at, IsBest, IsSolved}
-use Rattle.branch_bound.specs.inside.Solving.{IsLeafOf, AreProving, IsStopWith, IsDeadLeaf, IsEmptyLeaf}
+use Rattle.branch_bound.specs.inside.Searches.{best_cost, IsBest, IsSolvedBox}
+use Rattle.branch_bound.specs.inside.Solving.{IsLeafOfBox, AreProving, IsStopWith, IsDeadLeaf, IsEmptyLeaf}
 use Rattle.branch_bound.specs.declared.notes.NodeNote.{NodeNote}
 use Rattle.branch_bound.specs.declared.notes.NodeNote.TheVariants.{Pivots, Wide, Limit}
 use Rattle.branch_bound.specs.declared.best.Best.{Best}
@@ -84,7 +84,7 @@ ray_proving program budget trail t row broken numbers reached own =
 
 -- ---- leaves
 
-pub proved_is : (road : Road) (box : BoxRange) (scale : ℤ) (mults : List ℤ) (proved : Proved) → IsProvedOn (box_program road box) scale mults proved → IsProved road box proved
+pub proved_is : (road : Road) (box : BoxRange) (scale : ℤ) (mults : List ℤ) (proved : Proved) → IsProvedOn (box_program road box) scale mults proved → IsProvedOfBox road box proved
 proved_is road box scale mults proved h = record {
   scale_within = h.scale_within;
   mults_sound = record { on_rows = h.on_rows; right_signs = h.right_signs };
@@ -92,15 +92,15 @@ proved_is road box scale mults proved h = record {
   value_within = h.value_within;
 }
 
-pub leaf_from : (road : Road) (cost : Option Fraction) (box : BoxRange) (leaf : Work) (grown : Grown) → grown_of leaf ≡ grown → IsGrownLeaf grown → IsGood road cost grown box → IsLeafOf road cost box leaf
+pub leaf_from : (road : Road) (cost : Option Fraction) (box : BoxRange) (leaf : Work) (grown : Grown) → grown_of leaf ≡ grown → IsGrownLeaf grown → IsGoodNode road cost grown box → IsLeafOfBox road cost box leaf
 leaf_from road cost box leaf grown e is_leaf good = record {
   is_leaf = subst IsGrownLeaf (sym e) is_leaf;
-  good = subst (λ (g : Grown). IsGood road cost g box) (sym e) good;
+  good = subst (λ (g : Grown). IsGoodNode road cost g box) (sym e) good;
 }
 
 pub stop_good : (road : Road) (cost : Option Fraction) (box : BoxRange) (scale : ℤ) (mults : List ℤ) (note : NodeNote) (proved : Proved) (leaf : Work)
     → IsProvedOn (box_program road box) scale mults proved → grown_of leaf ≡ stopped_leaf proved note
-    → IsStopWith road cost (box_program road box) note scale mults → IsLeafOf road cost box leaf
+    → IsStopWith road cost (box_program road box) note scale mults → IsLeafOfBox road cost box leaf
 stop_good road cost box scale mults note proved leaf p e h =
     let t = h.0 in
     let key : ℤ × ℤ = (proved.value, proved.scale) in
@@ -109,13 +109,13 @@ stop_good road cost box scale mults note proved leaf p e h =
     leaf_from road cost box leaf (stopped_leaf proved note) e tt
     (proved_is road box scale mults proved p, (t, (h.1.0, (key, (own, at_most_itself key)))))
 
-pub dead_good : (road : Road) (cost : Option Fraction) (box : BoxRange) (leaf : Work) → IsDeadLeaf (box_program road box) leaf → IsLeafOf road cost box leaf
+pub dead_good : (road : Road) (cost : Option Fraction) (box : BoxRange) (leaf : Work) → IsDeadLeaf (box_program road box) leaf → IsLeafOfBox road cost box leaf
 dead_good road cost box leaf h =
     leaf_from road cost box leaf (dead_leaf h.pairs) h.is_dead tt
     (record { mults_sound = record { on_rows = h.on_rows; right_signs = h.right_signs }; above_zero = h.above_zero })
 
 pub empty_good : (road : Road) (cost : Option Fraction) (box : BoxRange) (trail : List Exchange) (scale : ℤ) (mults : List ℤ) (leaf : Work)
-    → IsEmptyLeaf road (box_program road box) trail scale mults leaf → IsLeafOf road cost box leaf
+    → IsEmptyLeaf road (box_program road box) trail scale mults leaf → IsLeafOfBox road cost box leaf
 empty_good road cost box trail scale mults leaf h =
     ⊎_elim
     (λ d. dead_good road cost box leaf d)
@@ -124,7 +124,7 @@ empty_good road cost box trail scale mults leaf h =
 
 -- ---- the best plan stays
 
-pub positive_den : (road : Road) (best : Option Best) → IsBest road best → HasPositiveDen (cost_at best)
+pub positive_den : (road : Road) (best : Option Best) → IsBest road best → HasPositiveDen (best_cost best)
 positive_den road None h = tt
 positive_den road (Some best) h = h.cost_key.scale.from_one
 
@@ -133,15 +133,15 @@ as_dear None = tt
 as_dear (Some cost) = int_le_refl (cost.num *ℤ cost.den)
 
 pub solved_same : (road : Road) (best : Option Best) (box : BoxRange) (solved : Solved) → IsBest road best → solved.best ≡ best
-    → IsLeafOf road (cost_at best) box solved.leaf → IsSolved road best box solved
+    → IsLeafOfBox road (best_cost best) box solved.leaf → IsSolvedBox road best box solved
 solved_same road best box solved h e l =
     let den = positive_den road best h in
-    let better : IsBetter (cost_at best) (cost_at best) = record { no_dearer = as_dear (cost_at best); new_den = den; old_den = den } in
+    let better : IsBetter (best_cost best) (best_cost best) = record { no_dearer = as_dear (best_cost best); new_den = den; old_den = den } in
     record {
       best_is = subst (IsBest road) (sym e) h;
-      better = subst (λ (b : Option Best). IsBetter (cost_at b) (cost_at best)) (sym e) better;
+      better = subst (λ (b : Option Best). IsBetter (best_cost b) (best_cost best)) (sym e) better;
       is_leaf = l.is_leaf;
-      good = subst (λ (b : Option Best). IsGood road (cost_at b) (grown_of solved.leaf) box) (sym e) l.good;
+      good = subst (λ (b : Option Best). IsGoodNode road (best_cost b) (grown_of solved.leaf) box) (sym e) l.good;
     }
 
 pub spent_stop : (road : Road) (cost : Option Fraction) (program : Program) (trail : List Exchange) (scale : ℤ) (mults : List ℤ)

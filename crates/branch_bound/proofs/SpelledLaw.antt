@@ -35,7 +35,7 @@ use Rattle.cert_text.specs.Certs.{priced_of, ArePaired, IsSpelledCert}
 use Rattle.branch_bound.specs.inside.Depths.{depth}
 use Rattle.branch_bound.specs.inside.Grown.{Grown}
 use Rattle.branch_bound.specs.inside.Least.{IsLeastKey}
-use Rattle.branch_bound.specs.inside.Searches.{cost_at, plan_at, IsBest}
+use Rattle.branch_bound.specs.inside.Searches.{best_cost, best_plan, IsBest}
 use Rattle.branch_bound.specs.declared.best.Best.{Best}
 use Rattle.branch_bound.proofs.DepthLaw.{few_splits}
 use Rattle.branch_bound.proofs.EnoughNodes.{splits_of_sound}
@@ -151,14 +151,14 @@ module _ (road : Road) (well : IsWellFormed road) where
       let few = well.counted.stages_to in
       omega (arith, top, few))
 
-  planned_text : (best : Option Best) → IsBest road best → IsPricedOrNone road (priced_of (plan_at best) (cost_at best))
+  planned_text : (best : Option Best) → IsBest road best → IsPricedOrNone road (priced_of (best_plan best) (best_cost best))
   planned_text None h = tt
   planned_text (Some best) h = (
     record { fits = admissible_fits road best.plan well h.den_within h.plan_at.admissible; openings = byte_openings best.plan h.plan_at.admissible },
-    record { lowest = h.plan_at.lowest; den_within = h.cost_key.scale; num_within = h.cost_key.value },
+    record { lowest = h.plan_at.cost_is.lowest; den_within = h.cost_key.scale; num_within = h.cost_key.value },
   )
 
-  paired : (best : Option Best) → ArePaired (plan_at best) (cost_at best)
+  paired : (best : Option Best) → ArePaired (best_plan best) (best_cost best)
   paired None = tt
   paired (Some best) = tt
 
@@ -175,12 +175,12 @@ module _ (road : Road) (well : IsWellFormed road) where
       (spelled_splits tree (root_box road) (root_box_fits road well) fits)
 
   -- the certificate has a text
-  pub spelled_found : (best : Option Best) (grown : Grown) (cert : Cert) → IsBest road best → cert.plan ≡ plan_at best → cert.cost ≡ cost_at best
+  pub spelled_found : (best : Option Best) (grown : Grown) (cert : Cert) → IsBest road best → cert.plan ≡ best_plan best → cert.cost ≡ best_cost best
       → IsLeastKey grown cert.bound → IsSound road cert.bound (box_tree_of cert.tree) (root_box road) → IsSpelledCert road cert
   spelled_found best grown cert b p c bound sound =
-      let pair = subst (λ (q : Option Plan). ArePaired q (cost_at best)) (sym p) (paired best) in
+      let pair = subst (λ (q : Option Plan). ArePaired q (best_cost best)) (sym p) (paired best) in
       let pair' = subst (λ (f : Option Fraction). ArePaired cert.plan f) (sym c) pair in
-      let planned = subst (λ (q : Option Plan). IsPricedOrNone road (priced_of q (cost_at best))) (sym p) (planned_text best b) in
+      let planned = subst (λ (q : Option Plan). IsPricedOrNone road (priced_of q (best_cost best))) (sym p) (planned_text best b) in
       let planned' = subst (λ (f : Option Fraction). IsPricedOrNone road (priced_of cert.plan f)) (sym c) planned in
       record {
         paired = pair';

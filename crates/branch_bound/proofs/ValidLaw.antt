@@ -22,7 +22,7 @@ planned_right : (road : Road) (plan : Option Plan) (cost : Option Fraction) → 
 planned_right road None None h = tt
 planned_right road None (Some cost) h = tt
 planned_right road (Some plan) None h = absurd h
-planned_right road (Some plan) (Some cost) h = (h.admissible, record { lowest = h.lowest; value = h.value })
+planned_right road (Some plan) (Some cost) h = (h.admissible, h.cost_is)
 
 or_true : (a b : Bool) → b ≡ true → (a || b) ≡ true
 or_true true b e = refl

@@ -20,10 +20,10 @@ use Rattle.cert_tree.specs.Soundness.{IsAtLeastBound}
 use Rattle.best_first.proofs.KeyLemmas.{at_most_along}
 use Rattle.branch_bound.specs.Stops.{IsMultiplierPastLimit}
 use Rattle.branch_bound.specs.inside.Better.{IsBetter}
-use Rattle.branch_bound.specs.inside.Grown.{whole_leaf, stopped_leaf, grown_of, IsGood}
-use Rattle.branch_bound.specs.inside.Proving.{IsPastLimit, IsGreatestOf}
-use Rattle.branch_bound.specs.inside.Searches.{cost_at, IsBest, IsSolved}
-use Rattle.branch_bound.specs.inside.Solving.{IsLeafOf, IsStopWith, IsOptimumOf, IsCheaper, IsPriced, IsWholeLeaf}
+use Rattle.branch_bound.specs.inside.Grown.{whole_leaf, stopped_leaf, grown_of, IsGoodNode}
+use Rattle.branch_bound.specs.inside.Proving.{IsNumberPastLimit, IsGreatestOf}
+use Rattle.branch_bound.specs.inside.Searches.{best_cost, IsBest, IsSolvedBox}
+use Rattle.branch_bound.specs.inside.Solving.{IsLeafOfBox, IsStopWith, IsOptimumOf, IsCheaper, IsPricedBest, IsWholeLeaf}
 use Rattle.branch_bound.specs.declared.notes.NodeNote.TheVariants.{Limit}
 use Rattle.branch_bound.specs.declared.best.Best.{Best}
 use Rattle.branch_bound.specs.declared.best.Solved.{Solved}
@@ -40,10 +40,10 @@ none_past scale mults greatest one small g all = record {
   mults_within = All-from_get_or IsMultiplier mults (pos 0) (λ i l. let e = g.each i (pos 0) l in omega (arith, ints));
 }
 
-pub scale_past : (scale : ℤ) (mults : List ℤ) → pos greatest_scale <ℤ scale → IsPastLimit scale mults scale
+pub scale_past : (scale : ℤ) (mults : List ℤ) → pos greatest_scale <ℤ scale → IsNumberPastLimit scale mults scale
 scale_past scale mults h = record { past = h; own = inl refl }
 
-pub mult_past : (scale : ℤ) (mults : List ℤ) (greatest : ℤ) → IsGreatestOf mults (length mults) greatest → pos greatest_scale <ℤ greatest → IsPastLimit scale mults greatest
+pub mult_past : (scale : ℤ) (mults : List ℤ) (greatest : ℤ) → IsGreatestOf mults (length mults) greatest → pos greatest_scale <ℤ greatest → IsNumberPastLimit scale mults greatest
 mult_past scale mults greatest g h =
     let o = g.one (omega (arith, ints)) in
     record { past = h; own = inr (o.0, (o.1.0, sym o.1.1)) }
@@ -76,7 +76,7 @@ pub whole_is : (optimum : Optimum) (proved : Proved) (found : Best) (old : Optio
 whole_is optimum proved found old best solved c n b l = record { best = best; best_is = b; cheaper = c; leaf_is = inl (n, l) }
 
 pub past_is : (optimum : Optimum) (proved : Proved) (found : Best) (old : Option Best) (best : Best) (solved : Solved) (number : ℤ) → IsCheaper found old best
-    → IsPastLimit optimum.scale optimum.mults number → solved.best ≡ Some best → grown_of solved.leaf ≡ stopped_leaf proved (Limit optimum.trail number)
+    → IsNumberPastLimit optimum.scale optimum.mults number → solved.best ≡ Some best → grown_of solved.leaf ≡ stopped_leaf proved (Limit optimum.trail number)
     → IsWholeLeaf optimum proved found old solved
 past_is optimum proved found old best solved number c p b l = record { best = best; best_is = b; cheaper = c; leaf_is = inr (number, (p, l)) }
 
@@ -85,7 +85,7 @@ cost_den road best h = h.cost_key.scale.from_one
 
 module _ (road : Road) (box : BoxRange) (optimum : Optimum) (proved : Proved) (found : Best) (old : Option Best) (solved : Solved)
     (o : IsOptimumOf road box optimum proved) (whole : HasWholeRemovals road optimum.den optimum.point) (exact : HasExactVolumes road optimum.den optimum.point)
-    (priced : IsPriced road (box_program road box) optimum.den optimum.point found) (old_best : IsBest road old) (h : IsWholeLeaf optimum proved found old solved) where
+    (priced : IsPricedBest road (box_program road box) optimum.den optimum.point found) (old_best : IsBest road old) (h : IsWholeLeaf optimum proved found old solved) where
   abbrev program : Program
   program = box_program road box
 
@@ -96,7 +96,7 @@ module _ (road : Road) (box : BoxRange) (optimum : Optimum) (proved : Proved) (f
       (λ (e : Some h.best ≡ old). subst (IsBest road) (sym e) old_best)
       h.cheaper.one_of
 
-  better : IsBetter (Some h.best.cost) (cost_at old)
+  better : IsBetter (Some h.best.cost) (best_cost old)
   better = record { no_dearer = h.cheaper.not_above_old; new_den = cost_den road h.best new_best; old_den = positive_den road old old_best }
 
   -- the best plan costs at most what the point costs
@@ -119,7 +119,7 @@ module _ (road : Road) (box : BoxRange) (optimum : Optimum) (proved : Proved) (f
       at_most_along (h.best.cost.num, h.best.cost.den) (cost_of_point program optimum.point, optimum.den) (proved.value, proved.scale)
       (cost_den road h.best new_best) o.own_optimum.den_from_one o.proved_on.scale_within.from_one within_point same
 
-  stop : (number : ℤ) → IsPastLimit optimum.scale optimum.mults number → IsStopWith road (Some h.best.cost) program (Limit optimum.trail number) optimum.scale optimum.mults
+  stop : (number : ℤ) → IsNumberPastLimit optimum.scale optimum.mults number → IsStopWith road (Some h.best.cost) program (Limit optimum.trail number) optimum.scale optimum.mults
   stop number p =
       let t = o.own_optimum.tableau in
       let own = o.own_optimum.own in
@@ -138,7 +138,7 @@ module _ (road : Road) (box : BoxRange) (optimum : Optimum) (proved : Proved) (f
       } in
       (t, ((o.own_optimum.reached, record { past = p.past; which = inr (inr mult) }), (own.own_scale, own.own_mults)))
 
-  leaf_good : IsLeafOf road (Some h.best.cost) box solved.leaf
+  leaf_good : IsLeafOfBox road (Some h.best.cost) box solved.leaf
   leaf_good =
       ⊎_elim
       (λ w. leaf_from road (Some h.best.cost) box solved.leaf (whole_leaf proved) w.1 tt
@@ -146,10 +146,10 @@ module _ (road : Road) (box : BoxRange) (optimum : Optimum) (proved : Proved) (f
       (λ s. stop_good road (Some h.best.cost) box optimum.scale optimum.mults (Limit optimum.trail s.0) proved solved.leaf o.proved_on s.1.1 (stop s.0 s.1.0))
       h.leaf_is
 
-  pub whole_solved : IsSolved road old box solved
+  pub whole_solved : IsSolvedBox road old box solved
   whole_solved = record {
     best_is = subst (IsBest road) (sym h.best_is) new_best;
-    better = subst (λ (b : Option Best). IsBetter (cost_at b) (cost_at old)) (sym h.best_is) better;
+    better = subst (λ (b : Option Best). IsBetter (best_cost b) (best_cost old)) (sym h.best_is) better;
     is_leaf = leaf_good.is_leaf;
-    good = subst (λ (b : Option Best). IsGood road (cost_at b) (grown_of solved.leaf) box) (sym h.best_is) leaf_good.good;
+    good = subst (λ (b : Option Best). IsGoodNode road (best_cost b) (grown_of solved.leaf) box) (sym h.best_is) leaf_good.good;
   }

@@ -1,13 +1,13 @@
 -- How a search ends: with a plan at its cost or without one, and with a leaf that was left open below the cost, or none.
 use Rattle.std.specs.Prelude.{◌⊎◌, ◌*◌, Option, Some, None, ℤ, pos, ◌+ℤ◌, ◌*ℤ◌, ◌≤ℤ◌, ◌<ℤ◌}
-use Rattle.numbers.specs.Fractions.{Fraction, IsLowest, HasValue}
+use Rattle.numbers.specs.Fractions.{Fraction}
 use Rattle.road_types.specs.declared.road.Road.{Road}
 use Rattle.plan_rules.specs.declared.plan.Plan.{Plan}
 use Rattle.plan_rules.specs.Rules.{IsAdmissible}
-use Rattle.plan_rules.specs.Costs.{cost_of}
 use Rattle.milp_builder.specs.Parts.{first_part, second_part}
 use Rattle.milp_builder.specs.declared.boxes.BoxRange.{BoxRange}
 use Rattle.cert_tree.specs.Soundness.{box_value}
+use Rattle.cert_text.specs.Validity.{IsCostOf}
 use Rattle.branch_bound.specs.declared.notes.NodeNote.{NodeNote}
 use Rattle.branch_bound.specs.declared.notes.NodeNote.TheVariants.{Pivots, Wide, Limit}
 use Rattle.branch_bound.specs.Leaves.{most_leaves}
@@ -16,8 +16,7 @@ use Rattle.branch_bound.specs.Noted.{Noted, low_with, dead_with, fork_with}
 -- an admissible plan at its cost over its denominator, in lowest terms
 pub record IsPlanAt (road : Road) (plan : Plan) (cost : Fraction) : Type 0 where
   pub admissible : IsAdmissible road plan
-  pub lowest : IsLowest cost
-  pub value : HasValue cost (cost_of road plan) plan.den
+  pub cost_is : IsCostOf road (record { plan = plan; cost = cost })
 
 -- a plan at the cost, or none where there is no cost
 abbrev pub HasPlanAt : Road → Option Plan → Option Fraction → Type 0

@@ -23,7 +23,7 @@ use Rattle.branch_bound.specs.declared.notes.NodeNote.{NodeNote}
 use Rattle.branch_bound.specs.declared.notes.NodeNote.TheVariants.{Fractional, Closed, Dead, Pivots, Wide, Limit, Nodes}
 
 -- the trail is as long as the budget of exchanges, and some basic value still breaks a bound
-pub record IsSpent (road : Road) (trail : List Exchange) (t : Tableau) : Type 0 where
+pub record HasSpentBudget (road : Road) (trail : List Exchange) (t : Tableau) : Type 0 where
   pub whole_budget : length trail ≡ exchange_budget road
   pub row : ℕ
   pub broken : Bound
@@ -79,7 +79,7 @@ pub record IsPastLimit (road : Road) (cost : Option Fraction) (program : Program
 
 -- the note says how the simplex stopped at the tableau after its trail; an optimum, a closed leaf and a dead one are no stop
 abbrev pub IsStop : Road → Option Fraction → Program → NodeNote → Tableau → Type 0
-IsStop road cost program (Pivots trail) t = IsReached program (exchange_budget road) trail t × IsSpent road trail t
+IsStop road cost program (Pivots trail) t = IsReached program (exchange_budget road) trail t × HasSpentBudget road trail t
 IsStop road cost program (Wide trail op) t =
     IsReached program (exchange_budget road) trail t × IsOutOfRangeAfter (2 ^ 127 - 1) trail t op
 IsStop road cost program (Limit trail number) t =

@@ -7,7 +7,7 @@ ghost use Rattle.best_first.specs.Keys.{IsKey};
 ghost use Rattle.branch_bound.specs.Found.{IsFound};
 ghost use Rattle.branch_bound.specs.inside.Grown.{grown_of, low_keys, AreKeys};
 ghost use Rattle.branch_bound.specs.inside.Least.{IsLeastKey, IsLeastFraction};
-ghost use Rattle.branch_bound.specs.inside.Searches.{cost_at, plan_at, IsFinishedSearch};
+ghost use Rattle.branch_bound.specs.inside.Searches.{best_cost, best_plan, IsFinishedSearch};
 
 use crate::best::Best;
 use crate::growing::{Finished, Search, grow};
@@ -75,8 +75,8 @@ struct Priced {
 }
 
 fn apart(best: Option<Best>) -> Priced
-    ensures plan { result.plan ≡ plan_at best }
-    ensures cost { result.cost ≡ cost_at best }
+    ensures plan { result.plan ≡ best_plan best }
+    ensures cost { result.cost ≡ best_cost best }
 {
     match best {
         None => Priced {

@@ -7,7 +7,7 @@ ghost use Rattle.best_first.specs.Keys.{IsKey, IsFirstLeast};
 ghost use Rattle.best_first.specs.inside.Covers.{open_keys};
 ghost use Rattle.std.specs.List.{All};
 ghost use Rattle.branch_bound.specs.inside.Grown.{grown_of, keys_of, node_total, AreKeys, IsCostKey};
-ghost use Rattle.branch_bound.specs.inside.Searches.{cost_at, IsBest, IsSolved, AreSolved, IsSearch, IsFinishedSearch, IsNext, IsNextOrNone, IsPartsOf, DoReach};
+ghost use Rattle.branch_bound.specs.inside.Searches.{best_cost, IsBest, IsSolvedBox, AreSolved, IsSearch, IsFinishedSearch, IsNext, IsNextOrNone, IsPartsOf, DoReach};
 
 use crate::best::Best;
 use crate::solving::solve_box;
@@ -153,8 +153,8 @@ fn node_budget(road: &Road) -> usize
 #[tactic(auto, using(crate::proofs::NextLemmas::next_or_none, crate::proofs::NextLemmas::open_all_of))]
 fn next_leaf(alloc: Global, search: &Search) -> Result<Option<usize>, AllocError>
     requires keys { AreKeys (grown_of search.now.work) }
-    requires cost { IsCostKey (cost_at search.now.best) }
-    ensures { IfOk result (λ next. IsNextOrNone (cost_at search.now.best) (grown_of search.now.work) next) }
+    requires cost { IsCostKey (best_cost search.now.best) }
+    ensures { IfOk result (λ next. IsNextOrNone (best_cost search.now.best) (grown_of search.now.work) next) }
 {
     let keys = waiting_keys(alloc, &search.work)?;
     Ok(next_of(keys.as_slice(), &search.best))
@@ -173,8 +173,8 @@ fn waiting_keys(alloc: Global, work: &Work) -> Result<Vec<(i128, i128)>, AllocEr
 #[tactic(auto, using(crate::proofs::NextLemmas::none_reach, crate::proofs::NextLemmas::least_reach))]
 fn next_of(keys: &[(i128, i128)], best: &Option<Best>) -> Option<usize>
     requires keys { All IsKey keys.now }
-    requires cost { IsCostKey (cost_at best.now) }
-    ensures { MatchOption result (DoReach (cost_at best.now) keys.now) (λ at. IsFirstLeast keys.now at) }
+    requires cost { IsCostKey (best_cost best.now) }
+    ensures { MatchOption result (DoReach (best_cost best.now) keys.now) (λ at. IsFirstLeast keys.now at) }
 {
     if keys.is_empty() {
         return None;
@@ -189,8 +189,8 @@ fn next_of(keys: &[(i128, i128)], best: &Option<Best>) -> Option<usize>
 /// Whether a key reaches the cost of the best plan; without a plan none does.
 fn is_reached(best: &Option<Best>, key: (i128, i128)) -> bool
     requires key { IsKey key }
-    requires cost { IsCostKey (cost_at best.now) }
-    ensures { IsTrue result ↔ IsAtLeastBound key.0 key.1 (cost_at best.now) }
+    requires cost { IsCostKey (best_cost best.now) }
+    ensures { IsTrue result ↔ IsAtLeastBound key.0 key.1 (best_cost best.now) }
 {
     match best {
         None => false,

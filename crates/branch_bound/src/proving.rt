@@ -6,7 +6,7 @@ ghost use Rattle.algebra.specs.Scale.{IsScale, greatest_scale};
 ghost use Rattle.programs.specs.Programs.{Program, row_count};
 ghost use Rattle.safe_bounds.specs.Values.{value_of, IsMultiplier, AreMultipliers, HasRightSigns};
 ghost use Rattle.safe_bounds.specs.Narrowing.{AreNarrow, IsNarrowed};
-ghost use Rattle.branch_bound.specs.inside.Proving.{IsProvedOn, IsWritten, pushed_unless_zero, IsPastLimit, IsGreatestOf};
+ghost use Rattle.branch_bound.specs.inside.Proving.{IsProvedOn, IsWritten, pushed_unless_zero, IsNumberPastLimit, IsGreatestOf};
 
 use crate::work::Proved;
 use algebra::GREATEST_SCALE;
@@ -112,7 +112,7 @@ pub(crate) fn past_limit(scale: i128, mults: &[i128]) -> Option<i128>
     requires scale { pos 1 ≤ℤ scale }
     requires within { All (λ y. unsigned_abs y < 2 ^ 127) mults.now }
     ensures narrow { IfNone result (AreNarrow scale mults.now) }
-    ensures past { IfSome result (λ number. IsPastLimit scale mults.now number) }
+    ensures past { IfSome result (λ number. IsNumberPastLimit scale mults.now number) }
 {
     if scale > GREATEST_SCALE {
         return Some(scale);

@@ -16,8 +16,8 @@ ghost use Rattle.simplex.specs.Ends.{IsEnd, IsDead, IsOptimum, HasNumbersWithin,
 ghost use Rattle.branch_bound.specs.Optima.{exchange_budget};
 ghost use Rattle.branch_bound.specs.inside.Asking.{AsksForNothing};
 ghost use Rattle.branch_bound.specs.inside.Grown.{grown_of, dead_leaf, whole_leaf, waiting_leaf, stopped_leaf, IsCostKey};
-ghost use Rattle.branch_bound.specs.inside.Searches.{cost_at, IsBest, IsSolved};
-ghost use Rattle.branch_bound.specs.inside.Solving.{AreProving, IsStoppedLeaf, IsEmptyLeaf, AreDeadMults, IsOptimumOf, IsWholeLeaf, IsCheaper, IsPriced};
+ghost use Rattle.branch_bound.specs.inside.Searches.{best_cost, IsBest, IsSolvedBox};
+ghost use Rattle.branch_bound.specs.inside.Solving.{AreProving, IsStoppedLeaf, IsEmptyLeaf, AreDeadMults, IsOptimumOf, IsWholeLeaf, IsCheaper, IsPricedBest};
 ghost use Rattle.branch_bound.specs.declared.notes.NodeNote.TheVariants.{Limit};
 
 use crate::asking::asked_split;
@@ -46,7 +46,7 @@ pub(crate) fn solve_box(
     requires accepted { road_fault road.now ≡ None }
     requires fits { IsBoxOf road.now range }
     requires best { IsBest road.now best }
-    ensures { IfOk result (λ solved. IsSolved road.now best range solved) }
+    ensures { IfOk result (λ solved. IsSolvedBox road.now best range solved) }
 {
     let milp = build(alloc, road, &range)?;
     let end = end_of(alloc, road, &milp)?;
@@ -90,7 +90,7 @@ fn solve_end(
     requires end { IsEnd (2 ^ 127 - 1) milp.now (exchange_budget road.now) end }
     requires numbers { HasNumbersWithin (2 ^ 127 - 1) end }
     requires best { IsBest road.now best }
-    ensures { IfOk result (λ solved. IsSolved road.now best range solved) }
+    ensures { IfOk result (λ solved. IsSolvedBox road.now best range solved) }
 {
     match end {
         LpEnd::Best {
@@ -229,7 +229,7 @@ fn solve_optimum(
     requires optimum { IsOptimum (box_program road.now range) (exchange_budget road.now) optimum.trail optimum.den optimum.point optimum.scale optimum.mults }
     requires numbers { AreProving milp.now optimum.scale optimum.mults }
     requires best { IsBest road.now best }
-    ensures { IfOk result (λ solved. IsSolved road.now best range solved) }
+    ensures { IfOk result (λ solved. IsSolvedBox road.now best range solved) }
 {
     let mults = copied(alloc, optimum.mults.as_slice())?;
     let proved = prove(alloc, milp, optimum.scale, mults)?;
@@ -259,7 +259,7 @@ fn leaf_of_optimum(
     requires fits { IsBoxOf road.now range }
     requires optimum { IsOptimumOf road.now range optimum proved }
     requires best { IsBest road.now best }
-    ensures { IfOk result (λ solved. IsSolved road.now best range solved) }
+    ensures { IfOk result (λ solved. IsSolvedBox road.now best range solved) }
 {
     if let Some(split) = asked_split(road, &range, optimum.den, optimum.point.as_slice()) {
         let leaf = waiting_leaf(range, split, optimum, proved);
@@ -329,7 +329,7 @@ fn plan_found(
     requires den { IsScale den }
     requires point { IsPoint (box_program road.now range.now) den point.now }
     requires asked { AsksForNothing road.now den point.now }
-    ensures { IfOk result (λ found. IsPriced road.now (box_program road.now range.now) den point.now found) }
+    ensures { IfOk result (λ found. IsPricedBest road.now (box_program road.now range.now) den point.now found) }
 {
     match plan_of(alloc, road, range, den, point)? {
         Some(plan) => Ok(priced(road, plan)),
@@ -374,7 +374,7 @@ fn whole_leaf(optimum: Optimum, proved: Proved, found: Best, best: Option<Best>)
     requires scale { pos 1 ≤ℤ optimum.scale }
     requires within { All (λ y. unsigned_abs y < 2 ^ 127) optimum.mults }
     requires found { IsKey (found.cost.num, found.cost.den) }
-    requires best { IsCostKey (cost_at best) }
+    requires best { IsCostKey (best_cost best) }
     ensures { IsWholeLeaf optimum proved found best result }
 {
     let best = Some(cheaper(found, best));
@@ -394,7 +394,7 @@ fn whole_leaf(optimum: Optimum, proved: Proved, found: Best, best: Option<Best>)
 #[tactic(auto, using(crate::proofs::WholeLemmas::keeps_old, crate::proofs::WholeLemmas::takes_found, crate::proofs::WholeLemmas::takes_first))]
 fn cheaper(found: Best, old: Option<Best>) -> Best
     requires found { IsKey (found.cost.num, found.cost.den) }
-    requires old { IsCostKey (cost_at old) }
+    requires old { IsCostKey (best_cost old) }
     ensures { IsCheaper found old result }
 {
     let Some(old) = old else {

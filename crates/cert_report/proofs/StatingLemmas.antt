@@ -18,7 +18,7 @@ use Rattle.cert_text.specs.Validity.{IsPlannedRight, IsUnbeaten}
 use Rattle.cert_checker.specs.Answered.{IsAnswerOf, IsProved}
 use Rattle.cert_checker.specs.declared.refusal.Checked.{Checked}
 use Rattle.cert_report.specs.CertReport.{open_leaves}
-use Rattle.cert_report.specs.inside.Counting.{IsCounted}
+use Rattle.cert_report.specs.inside.Counting.{IsWholeCount}
 use Rattle.cert_report.specs.inside.Stating.{States, HasReport}
 
 -- the heading of a certificate, and the text behind it
@@ -60,7 +60,7 @@ heading_failed road bytes before after (Bad line) cert s e h =
     not_ok (heading_due road before) line (heading_of cert, read.0) e (ap (heading_due road) s ∙ read.2)
 heading_failed road bytes before after NoMemory cert s e h = tt
 
-pub not_counted : (cert : Certificate) (error : TextErr) → IsCounted (Err error) (open_leaves cert.tree) → States cert (Err error)
+pub not_counted : (cert : Certificate) (error : TextErr) → IsWholeCount (Err error) (open_leaves cert.tree) → States cert (Err error)
 not_counted cert (Bad line) h = h
 not_counted cert NoMemory h = tt
 

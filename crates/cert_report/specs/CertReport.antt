@@ -57,13 +57,13 @@ pub record AddsReport (road : Road) (bytes before after : List ℕ) : Type 0 whe
   pub adds : Adds (cert_lines road cert) before after
 
 -- the bytes are the text of no valid certificate, this is first refused, and nothing was added
-pub record IsRefused (road : Road) (bytes : List ℕ) (rule : CertRule) (line : ℕ) (before after : List ℕ) : Type 0 where
+pub record IsCertRefused (road : Road) (bytes : List ℕ) (rule : CertRule) (line : ℕ) (before after : List ℕ) : Type 0 where
   pub none : IsNoValidText road bytes
   pub first : IsFirstRefusal road bytes (refused rule line)
   pub kept : after ≡ before
 
 -- the report was added, or the bytes are refused; after want of memory nothing was added
-abbrev pub Replays : Road → List ℕ → List ℕ → Result ⊤ CheckErr → List ℕ → Type 0
-Replays road bytes before (Ok nothing) after = AddsReport road bytes before after
-Replays road bytes before (Err (Refused rule line)) after = IsRefused road bytes rule line before after
-Replays road bytes before (Err NoMemory) after = after ≡ before
+abbrev pub AnswersReplay : Road → List ℕ → List ℕ → Result ⊤ CheckErr → List ℕ → Type 0
+AnswersReplay road bytes before (Ok nothing) after = AddsReport road bytes before after
+AnswersReplay road bytes before (Err (Refused rule line)) after = IsCertRefused road bytes rule line before after
+AnswersReplay road bytes before (Err NoMemory) after = after ≡ before

@@ -4,7 +4,7 @@ ghost use Rattle.text_parts.specs.Lines.{text_of};
 ghost use Rattle.cert_tree.specs.Trees.{BoxTree};
 ghost use Rattle.cert_text.specs.NodeText.{IsSpelledTree, most_levels, tree_text};
 ghost use Rattle.cert_report.specs.CertReport.{open_leaves};
-ghost use Rattle.cert_report.specs.inside.Counting.{count_of, with_cause, with_step, IsCountedTo, CountsOn, IsCounted};
+ghost use Rattle.cert_report.specs.inside.Counting.{count_of, with_cause, with_step, IsCountedTo, CountsOn, IsWholeCount};
 
 use cert_text::{LeafBuf, NodeReader, Step};
 use cert_tree::Why;
@@ -76,7 +76,7 @@ pub(crate) fn count_open(
 ) -> Result<OpenLeaves, TextErr>
     requires { rows ≤ 600 }
     ensures { (tree : BoxTree) (rest : List ℕ) → IsSpelledTree rows most_levels tree
-        → text_of lines.old.left ≡ tree_text tree ++ rest → IsCounted result (open_leaves tree) }
+        → text_of lines.old.left ≡ tree_text tree ++ rest → IsWholeCount result (open_leaves tree) }
 {
     let mut leaf = LeafBuf::new(alloc, rows)?;
     let mut reader = NodeReader::over(rows);

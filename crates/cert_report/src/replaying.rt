@@ -3,7 +3,7 @@ ghost use Rattle.std.specs.Prelude.{◌≡◌, None, IfOk, OnErr};
 ghost use Rattle.road_types.specs.Faults.{road_fault};
 ghost use Rattle.cert_text.specs.CertText.{Certificate, IsCertText};
 ghost use Rattle.report.specs.Reports.{plan_found, bound_found};
-ghost use Rattle.cert_report.specs.CertReport.{plan_stated, AddsReport, Replays};
+ghost use Rattle.cert_report.specs.CertReport.{plan_stated, AddsReport, AnswersReplay};
 ghost use Rattle.cert_report.specs.inside.Stating.{States, HasReport};
 
 use crate::counting::count_open;
@@ -79,7 +79,7 @@ fn append_report(
 /// text of a valid certificate, with the first broken rule and its line. Nothing is appended at an error.
 pub fn replay(alloc: Global, road: &Road, bytes: &[u8], out: &mut Vec<u8>) -> Result<(), CheckErr>
     requires { road_fault road.now ≡ None }
-    ensures { Replays road.now bytes.now out.old.items result out.new.items }
+    ensures { AnswersReplay road.now bytes.now out.old.items result out.new.items }
 {
     match check(alloc, road, bytes) {
         Ok(_) => Ok(append_report(alloc, road, bytes, out)?),

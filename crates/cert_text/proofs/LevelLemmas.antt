@@ -4,7 +4,7 @@ use Rattle.std.specs.Prelude.{slice_set, slice_index, nat_le}
 use Rattle.std.specs.List.{list_all}
 use Rattle.std.proofs.lemmas.Bool.{and_parts}
 use Rattle.std.proofs.lemmas.List.{drop-drop}
-use Rattle.cert_text.specs.Steps.{Due}
+use Rattle.cert_text.specs.Steps.{TreesDue}
 
 -- the same level at two places, of which the second is this one
 two_places : (xs : List ℕ) (i x : ℕ) → suc i < length xs → drop i (slice_set (slice_set xs (suc i) x) i x) ≡ x ∷ x ∷ drop (suc (suc i)) xs
@@ -27,12 +27,12 @@ top_place [] (suc n) a e = cc
 top_place (x ∷ xs) zero a e = (omega arith, cc)
 top_place (x ∷ xs) (suc n) a e = let more = top_place xs n a e in (omega (arith, more.0), more.1)
 
-abbrev due_of : ℕ → List ℕ → Due
+abbrev due_of : ℕ → List ℕ → TreesDue
 due_of rows levels = record { rows = rows; levels = levels }
 
-pub descend_view : (rows next x : ℕ) (xs : List ℕ) (v : Due) → due_of rows (drop next xs) ≡ v → slice_get v.levels 0 ≡ Some (x + 1) → ((k : ℕ) → next ≤ k → slice_index xs k ≤ k) → due_of rows (drop (next - 1) (slice_set (slice_set xs next x) (next - 1) x)) ≡ due_of v.rows (x ∷ x ∷ drop 1 v.levels)
+pub descend_view : (rows next x : ℕ) (xs : List ℕ) (v : TreesDue) → due_of rows (drop next xs) ≡ v → slice_get v.levels 0 ≡ Some (x + 1) → ((k : ℕ) → next ≤ k → slice_index xs k ≤ k) → due_of rows (drop (next - 1) (slice_set (slice_set xs next x) (next - 1) x)) ≡ due_of v.rows (x ∷ x ∷ drop 1 v.levels)
 descend_view rows next x xs v e top low =
-    let P : Due → Type 0 = λ v. slice_get v.levels 0 ≡ Some (x + 1) → due_of rows (drop (next - 1) (slice_set (slice_set xs next x) (next - 1) x)) ≡ due_of v.rows (x ∷ x ∷ drop 1 v.levels) in
+    let P : TreesDue → Type 0 = λ v. slice_get v.levels 0 ≡ Some (x + 1) → due_of rows (drop (next - 1) (slice_set (slice_set xs next x) (next - 1) x)) ≡ due_of v.rows (x ∷ x ∷ drop 1 v.levels) in
     subst P e
     (λ top.
     let place = top_place xs next (x + 1) top in

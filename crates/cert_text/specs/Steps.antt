@@ -7,7 +7,7 @@ use Rattle.cert_text.specs.declared.step.Step.TheVariants.{Low, Dead, Split as A
 use Rattle.cert_text.specs.NodeText.{Root, low_leaf, dead_leaf, split_at, root_text, tree_text, IsRoot, IsSpelledTree}
 
 -- what is still to be read: trees over so many rows, with the levels that are left to each, the next first
-pub record Due : Type 0 where
+pub record TreesDue : Type 0 where
   pub rows : ℕ
   pub levels : List ℕ
 

@@ -29,9 +29,9 @@ pub struct NodeReader {
 
 impl Model for NodeReader {
     ghost use Rattle.std.specs.Prelude.{ℕ, ◌≤◌, drop, slice_index};
-    ghost use Rattle.cert_text.specs.Steps.{Due};
+    ghost use Rattle.cert_text.specs.Steps.{TreesDue};
 
-    ghost Value = { Due };
+    ghost Value = { TreesDue };
 
     ghost view = { λ r. record { rows = r.rows; levels = drop r.next r.levels } };
 

@@ -3,7 +3,7 @@ use Rattle.std.proofs.Common.{◌≡◌, ℕ, Bool, true, false, List, get_or, s
 use Rattle.std.specs.Bool.{OnTrue, OnFalse}
 use Rattle.std.specs.FinMap.{get, insert}
 use Rattle.std.proofs.lemmas.List.{get_or_default, set-get_or}
-use Rattle.outside.specs.inside.Entry.{NamedFile, unused, files_of, rooms_of, IsFirst}
+use Rattle.outside.specs.inside.Entry.{NamedFile, unused, files_of, rooms_of, IsFirstEntry}
 use Rattle.outside.specs.MemStore.{room_with}
 use Rattle.outside.proofs.EntryLemmas.{map_of-set, map_of-set_same, get-map_of_first}
 
@@ -14,7 +14,7 @@ with_bytes old bytes = record { name = old.name; file = Some bytes; room = old.r
 abbrev pub with_room : NamedFile → ℕ → NamedFile
 with_room old room = record { name = old.name; file = old.file; room = Some room }
 
-module _ (n : List ℕ) (es : List NamedFile) (i : ℕ) (old : NamedFile) (first : IsFirst n es i) (at : old ≡ get_or es i old) where
+module _ (n : List ℕ) (es : List NamedFile) (i : ℕ) (old : NamedFile) (first : IsFirstEntry n es i) (at : old ≡ get_or es i old) where
   entry : get_or es i (unused n) ≡ old
   entry = get_or_default es i (unused n) old first.within ∙ sym at
 

@@ -12,7 +12,7 @@ use Rattle.std.proofs.lemmas.Option.{none-some}
 use Rattle.std.proofs.lemmas.List.Sums.{fails_before_first}
 use Rattle.std.proofs.lemmas.List.{length_push, get_or_push}
 use Rattle.std.proofs.lemmas.List.Quantifiers.{position-Some}
-use Rattle.outside.specs.inside.Entry.{NamedFile, unused, is_named, with_part, map_of, files_of, rooms_of, IsFirst, HasNone}
+use Rattle.outside.specs.inside.Entry.{NamedFile, unused, is_named, with_part, map_of, files_of, rooms_of, IsFirstEntry, HasNone}
 
 abbrev Name : Type 0
 Name = List ℕ
@@ -98,14 +98,14 @@ lookup-none part n (e ∷ es) d none =
     ap (λ b. cond b (part e) (lookup part n es)) (none zero (omega arith)) ∙ lookup-none part n es d (others n e es (length es) d none)
 
 -- where the first entry with a name changes, the map changes at that name alone
-pub map_of-set : {V : Type 0} (part : NamedFile → Option V) (n : Name) (es : List NamedFile) (i : ℕ) (new : NamedFile) → IsFirst n es i → new.name ≡ n → map_of part (set es i new) ≡ with_part (map_of part es) n (part new)
+pub map_of-set : {V : Type 0} (part : NamedFile → Option V) (n : Name) (es : List NamedFile) (i : ℕ) (new : NamedFile) → IsFirstEntry n es i → new.name ≡ n → map_of part (set es i new) ≡ with_part (map_of part es) n (part new)
 map_of-set part n es i new first is = same _ _ (λ q.
     get-map_of part (set es i new) q
     ∙ lookup-set part n q es i new (unused n) first.within first.named is first.before
     ∙ ap (cond (ties q n) (part new)) (sym (get-map_of part es q))
     ∙ sym (get-with_part (map_of part es) n (part new) q))
 
-pub get-map_of_first : {V : Type 0} (part : NamedFile → Option V) (n : Name) (es : List NamedFile) (i : ℕ) → IsFirst n es i → get (map_of part es) n ≡ part (get_or es i (unused n))
+pub get-map_of_first : {V : Type 0} (part : NamedFile → Option V) (n : Name) (es : List NamedFile) (i : ℕ) → IsFirstEntry n es i → get (map_of part es) n ≡ part (get_or es i (unused n))
 get-map_of_first part n es i first = get-map_of part es n ∙ lookup-at part n es i (unused n) first.within first.named first.before
 
 pub get-map_of_none : {V : Type 0} (part : NamedFile → Option V) (n : Name) (es : List NamedFile) → HasNone n es → get (map_of part es) n ≡ None
@@ -119,7 +119,7 @@ with_part_same m n p is = same _ _ (λ q. get-with_part m n p q ∙ kept q (ties
     kept q true e = sym is ∙ ap (get m) (sym (same_name q n e))
     kept q false e = refl
 
-pub map_of-set_same : {V : Type 0} (part : NamedFile → Option V) (n : Name) (es : List NamedFile) (i : ℕ) (new : NamedFile) → IsFirst n es i → new.name ≡ n → part new ≡ part (get_or es i (unused n)) → map_of part (set es i new) ≡ map_of part es
+pub map_of-set_same : {V : Type 0} (part : NamedFile → Option V) (n : Name) (es : List NamedFile) (i : ℕ) (new : NamedFile) → IsFirstEntry n es i → new.name ≡ n → part new ≡ part (get_or es i (unused n)) → map_of part (set es i new) ≡ map_of part es
 map_of-set_same part n es i new first is kept =
     map_of-set part n es i new first is
     ∙ with_part_same (map_of part es) n (part new) (get-map_of_first part n es i first ∙ sym kept)
@@ -134,7 +134,7 @@ map_of-push part n es none nothing = same _ _ (λ q.
     ∙ ap (λ m. get m q) (with_part_same (map_of part es) n (part (unused n)) (get-map_of_none part n es none ∙ sym nothing)))
 
 -- and is the first with the name
-pub first-push : (n : Name) (es : List NamedFile) → HasNone n es → IsFirst n (es ++ unused n ∷ []) (length es)
+pub first-push : (n : Name) (es : List NamedFile) → HasNone n es → IsFirstEntry n (es ++ unused n ∷ []) (length es)
 first-push n es none = record {
   within = omega (arith, length_push es (unused n));
   named = ap (λ (e : NamedFile). e.name) (get_or_push es (unused n) (unused n) (length es) refl);
@@ -142,10 +142,10 @@ first-push n es none = record {
 }
 
 -- what a search for the name tells
-pub first_from_position : (n : Name) (es seen : List NamedFile) (i : ℕ) → seen ≡ es → Some i ≡ position (is_named n) seen → IsFirst n es i
+pub first_from_position : (n : Name) (es seen : List NamedFile) (i : ℕ) → seen ≡ es → Some i ≡ position (is_named n) seen → IsFirstEntry n es i
 first_from_position n es seen i is e =
     let at = position-Some (is_named n) seen i (unused n) (sym e) in
-    subst (λ (l : List NamedFile). IsFirst n l i) is record { within = at.0; named = sym (same_name n _ at.1); before = at.2 }
+    subst (λ (l : List NamedFile). IsFirstEntry n l i) is record { within = at.0; named = sym (same_name n _ at.1); before = at.2 }
 
 nothing_found : (b : Bool) (i : ℕ) → None ≡ cond b (Some i) None → b ≡ false
 nothing_found true i e = absurd (none-some i e)
@@ -160,10 +160,10 @@ pub none_from_position : (n : Name) (es seen : List NamedFile) → seen ≡ es �
 none_from_position n es seen is e = subst (HasNone n) is (none_before n seen e)
 
 -- a new entry behind the others
-pub after_push : (n : Name) (es now : List NamedFile) (new : NamedFile) (i : ℕ) → HasNone n es → new ≡ unused n → i ≡ length es → now ≡ es ++ new ∷ [] → IsFirst n now i × (files_of now ≡ files_of es) × (rooms_of now ≡ rooms_of es)
+pub after_push : (n : Name) (es now : List NamedFile) (new : NamedFile) (i : ℕ) → HasNone n es → new ≡ unused n → i ≡ length es → now ≡ es ++ new ∷ [] → IsFirstEntry n now i × (files_of now ≡ files_of es) × (rooms_of now ≡ rooms_of es)
 after_push n es now new i none is at e =
     let whole : now ≡ es ++ unused n ∷ [] = e ∙ ap (λ (x : NamedFile). es ++ x ∷ []) is in (
-      subst (λ (l : List NamedFile). IsFirst n l i) (sym whole) (subst (IsFirst n (es ++ unused n ∷ [])) (sym at) (first-push n es none)),
+      subst (λ (l : List NamedFile). IsFirstEntry n l i) (sym whole) (subst (IsFirstEntry n (es ++ unused n ∷ [])) (sym at) (first-push n es none)),
       ap files_of whole ∙ map_of-push (λ x. x.file) n es none refl,
       ap rooms_of whole ∙ map_of-push (λ x. x.room) n es none refl,
     )

@@ -3,7 +3,7 @@ ghost use Rattle.std.specs.Prelude.{◌≡◌, ◌<◌, IfOk, OnOk, OnErr, Match
 ghost use Rattle.std.specs.Bool.{OnTrue, OnFalse};
 ghost use Rattle.std.specs.FinMap.{get, insert};
 ghost use Rattle.std.specs.List.{position};
-ghost use Rattle.outside.specs.inside.Entry.{files_of, rooms_of, is_named, IsFirst};
+ghost use Rattle.outside.specs.inside.Entry.{files_of, rooms_of, is_named, IsFirstEntry};
 ghost use Rattle.outside.specs.MemStore.{room_with};
 ghost use Rattle.outside.specs.MemStore.{FitsRoom, LacksRoom};
 
@@ -74,7 +74,7 @@ pub(crate) fn refill(entries: &mut Vec<Entry>, name: &str, bytes: &[u8]) -> bool
 
 // The place of the entry with the name, counted from 0. A new entry has neither file nor room.
 fn place_for(alloc: Global, entries: &mut Vec<Entry>, name: &str) -> Result<usize, AllocError>
-    ensures first { IfOk result (λ place. IsFirst name.now entries.new.items place) }
+    ensures first { IfOk result (λ place. IsFirstEntry name.now entries.new.items place) }
     ensures files { files_of entries.new.items ≡ files_of entries.old.items }
     ensures rooms { rooms_of entries.new.items ≡ rooms_of entries.old.items }
 {

@@ -13,7 +13,7 @@ use Rattle.plan_rules.specs.declared.costs.Movement.{Movement}
 use Rattle.plan_rules.specs.declared.costs.Movement.TheVariants.{Cut, Fill, Right, Left, Access}
 use Rattle.plan_rules.specs.declared.plan.Plan.{Plan}
 use Rattle.plan_rules.specs.Plans.{amount}
-use Rattle.plan_rules.specs.Costs.{amounts_of, entry_count, unit_cost, entry_cost, stage_cost, removal_cost}
+use Rattle.plan_rules.specs.Costs.{amounts_of, entry_count, entry_unit_cost, entry_cost, stage_cost, removal_cost}
 use Rattle.plan_rules.specs.inside.Widths.{IsPayable}
 
 pub cost_width : (x : ℤ) → IsCost x → unsigned_abs x ≤ 10 ^ 6
@@ -25,7 +25,7 @@ some_cost x h = omega (arith, ints, h.at_least, h.at_most)
 access_cost : (x y : ℤ) → IsCost x → IsCost y → unsigned_abs (x +ℤ y) ≤ 2 * 10 ^ 6
 access_cost x y p q = omega (arith, ints, p.at_least, p.at_most, q.at_least, q.at_most)
 
-unit_cost_width : (road : Road) → IsWellFormed road → (m : Movement) (i : ℕ) → IsNumber i (entry_count road m) → unsigned_abs (unit_cost road m i) ≤ 2 * 10 ^ 6
+unit_cost_width : (road : Road) → IsWellFormed road → (m : Movement) (i : ℕ) → IsNumber i (entry_count road m) → unsigned_abs (entry_unit_cost road m i) ≤ 2 * 10 ^ 6
 unit_cost_width road ok Cut i n = some_cost (section road i).cut_cost (ok.sections i n).cut_cost
 unit_cost_width road ok Fill i n = some_cost (section road i).fill_cost (ok.sections i n).fill_cost
 unit_cost_width road ok Right h n = some_cost (hop road h).right_cost (ok.hops h n).right_cost
@@ -37,7 +37,7 @@ unit_cost_width road ok Access q n =
 pub entry_cost_width : (road : Road) (plan : Plan) → IsWellFormed road → IsPayable road plan → (m : Movement) (t i : ℕ) → IsNumber t road.stages → IsNumber i (entry_count road m)
     → unsigned_abs (entry_cost road plan m t i) ≤ 2 * 10 ^ 20 * 2 ^ 40
 entry_cost_width road plan ok paid m t i stage number =
-    omega (arith, unsigned_abs_mul_le (unit_cost road m i) (amount (amounts_of plan m) t i) (2 * 10 ^ 6) (10 ^ 14 * 2 ^ 40) (unit_cost_width road ok m i number) (paid.each m t i stage number))
+    omega (arith, unsigned_abs_mul_le (entry_unit_cost road m i) (amount (amounts_of plan m) t i) (2 * 10 ^ 6) (10 ^ 14 * 2 ^ 40) (unit_cost_width road ok m i number) (paid.each m t i stage number))
 
 -- a stage has at most 60 entries of a kind
 pub few_entries : (road : Road) → IsWellFormed road → (m : Movement) → entry_count road m ≤ 60

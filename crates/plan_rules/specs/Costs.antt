@@ -25,16 +25,16 @@ entry_count road Right = hop_count road
 entry_count road Left = hop_count road
 entry_count road Access = access_count road
 
-abbrev pub unit_cost : Road → Movement → ℕ → ℤ
-unit_cost road Cut i = (section road i).cut_cost
-unit_cost road Fill i = (section road i).fill_cost
-unit_cost road Right h = (hop road h).right_cost
-unit_cost road Left h = (hop road h).left_cost
-unit_cost road Access q = access_unit_cost road q
+abbrev pub entry_unit_cost : Road → Movement → ℕ → ℤ
+entry_unit_cost road Cut i = (section road i).cut_cost
+entry_unit_cost road Fill i = (section road i).fill_cost
+entry_unit_cost road Right h = (hop road h).right_cost
+entry_unit_cost road Left h = (hop road h).left_cost
+entry_unit_cost road Access q = access_unit_cost road q
 
 -- unit cost times amount
 abbrev pub entry_cost : Road → Plan → Movement → ℕ → ℕ → ℤ
-entry_cost road plan m t i = unit_cost road m i *ℤ amount (amounts_of plan m) t i
+entry_cost road plan m t i = entry_unit_cost road m i *ℤ amount (amounts_of plan m) t i
 
 -- all entries of stage t
 unfoldable pub stage_cost : Road → Plan → Movement → ℕ → ℤ

@@ -7,7 +7,7 @@ ghost use Rattle.road_types.specs.Road.{block_count};
 ghost use Rattle.road_types.specs.WellFormed.{IsWellFormed};
 ghost use Rattle.plan_rules.specs.Fits.{Fits};
 ghost use Rattle.plan_rules.specs.Rules.{IsAdmissible};
-ghost use Rattle.plan_rules.specs.Costs.{amounts_of, entry_count, unit_cost, entry_cost, stage_cost, movement_cost, removal_cost, cut_total, fill_total, haul_total, access_total, removal_total, cost_of};
+ghost use Rattle.plan_rules.specs.Costs.{amounts_of, entry_count, entry_unit_cost, entry_cost, stage_cost, movement_cost, removal_cost, cut_total, fill_total, haul_total, access_total, removal_total, cost_of};
 ghost use Rattle.plan_rules.specs.inside.Widths.{IsPayable};
 
 use crate::entries::{amount_at, opening_at};
@@ -154,7 +154,7 @@ fn entry_cost(road: &Road, plan: &Plan, movement: Movement, stage: usize, number
     requires number { IsNumber number (entry_count road.now movement) }
     ensures { result ≡ entry_cost road.now plan.now movement stage number }
 {
-    let unit = unit_cost(road, movement, number);
+    let unit = entry_unit_cost(road, movement, number);
     times(
         i128::from(unit),
         amount_at(amounts_of(plan, movement), stage, number),
@@ -186,10 +186,10 @@ fn amounts_of(plan: &Plan, movement: Movement) -> &Listed<Listed<i128>>
 }
 
 /// What a litre of an entry costs.
-fn unit_cost(road: &Road, movement: Movement, number: usize) -> i64
+fn entry_unit_cost(road: &Road, movement: Movement, number: usize) -> i64
     requires well_formed { IsWellFormed road.now }
     requires number { IsNumber number (entry_count road.now movement) }
-    ensures { result ≡ unit_cost road.now movement number }
+    ensures { result ≡ entry_unit_cost road.now movement number }
 {
     match movement {
         Movement::Cut => road.section(number).cut_cost,

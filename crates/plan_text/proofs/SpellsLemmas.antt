@@ -7,7 +7,7 @@ use Rattle.std.proofs.lemmas.List.Splits.{slice_split_at}
 use Rattle.text_parts.specs.Decimal.{IsShort}
 use Rattle.text_parts.specs.Lines.{TextLine, Reading, lines_of, bytes_of, text_of}
 use Rattle.text_parts.proofs.LinesLemmas.{lines_ended}
-use Rattle.plan_text.specs.LineForms.{Form, AreOfForm, spelled_row, spelled_line, line_numbers}
+use Rattle.plan_text.specs.LineForms.{LineForm, AreOfForm, spelled_row, spelled_line, line_numbers}
 use Rattle.plan_text.specs.inside.LineReading.{Read, then_read, ◌>>=◌, give, taken, behind, next_numbers, numbers_due, repeat_due}
 use Rattle.plan_text.specs.Taken.{Took}
 use Rattle.plan_text.proofs.WordLemmas.{IsWord, spelled_row-lacks}
@@ -52,7 +52,7 @@ taken_is : {A : Type 0} (o : Option A) (lines after : Reading) (a : A) → taken
 taken_is None lines after a e = cc
 taken_is (Some b) lines after a e = let parts = ok_parts b a lines after e in (ap (λ x. Some x) parts.0, parts.1)
 
-line_took : (form : Form) (before after : Reading) (others : List TextLine) (line : TextLine) (numbers : List ℤ) → before.left ≡ line ∷ others → behind before others ≡ after → IsLineOf form line numbers → Took before after (spelled_line form.keyword numbers)
+line_took : (form : LineForm) (before after : Reading) (others : List TextLine) (line : TextLine) (numbers : List ℤ) → before.left ≡ line ∷ others → behind before others ≡ after → IsLineOf form line numbers → Took before after (spelled_line form.keyword numbers)
 line_took form before after others line numbers e h l =
     subst (λ r. Took before r (spelled_line form.keyword numbers)) h
     (record {
@@ -63,7 +63,7 @@ line_took form before after others line numbers e h l =
       source_is = refl;
     })
 
-row_sound : (form : Form) (before after : Reading) (left : List TextLine) (numbers : List ℤ) → before.left ≡ left → next_numbers form left before ≡ Ok (numbers, after) → Took before after (spelled_line form.keyword numbers) × AreOfForm form numbers
+row_sound : (form : LineForm) (before after : Reading) (left : List TextLine) (numbers : List ℤ) → before.left ≡ left → next_numbers form left before ≡ Ok (numbers, after) → Took before after (spelled_line form.keyword numbers) × AreOfForm form numbers
 row_sound form before after [] numbers i e = cc
 row_sound form before after (line ∷ others) numbers i e =
     let read = taken_is (line_numbers form line) (behind before others) after numbers e in
@@ -78,7 +78,7 @@ first_line at keyword numbers rest w h =
     ∙ lines_ended at (row ++ (10 ∷ rest)) row rest (slice_split_at (λ b. b == 10) row 10 rest (spelled_row-lacks keyword numbers w h) refl)
 
 -- a line of a form is spelled by its numbers
-pub row_spells : (form : Form) → IsWord form.keyword → Spells (numbers_due form) (spelled_line form.keyword) (AreOfForm form)
+pub row_spells : (form : LineForm) → IsWord form.keyword → Spells (numbers_due form) (spelled_line form.keyword) (AreOfForm form)
 unfolding numbers_due
 row_spells form w =
     record {

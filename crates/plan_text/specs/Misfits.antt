@@ -6,26 +6,26 @@ use Rattle.road_types.specs.declared.road.Road.{Road}
 use Rattle.road_types.specs.Road.{section_count, segment_count, access_count, block_count}
 use Rattle.plan_text.specs.declared.error.TextErr.{TextErr}
 use Rattle.plan_text.specs.declared.error.TextErr.TheVariants.{Bad, NoMemory}
-use Rattle.plan_text.specs.LineForms.{Form, short_numbers, line_numbers, den_form, piece_form, opens_form, end_form}
+use Rattle.plan_text.specs.LineForms.{LineForm, short_numbers, line_numbers, den_form, piece_form, opens_form, end_form}
 
 -- these forms so many times
-abbrev pub times : ℕ → List Form → List Form
+abbrev pub times : ℕ → List LineForm → List LineForm
 times zero forms = []
 times (suc n) forms = forms ++ times n forms
 
 -- the forms of the five lines of a stage
-abbrev pub stage_forms : Road → List Form
+abbrev pub stage_forms : Road → List LineForm
 stage_forms road =
     short_numbers (codes "cut") (section_count road) ∷ short_numbers (codes "fill") (section_count road) ∷ short_numbers (codes "right") (section_count road - 1) ∷ short_numbers (codes "left") (section_count road - 1) ∷ short_numbers (codes "roads") (access_count road) ∷ []
 
 -- the forms due, line by line
-abbrev pub forms_due : Road → List Form
+abbrev pub forms_due : Road → List LineForm
 forms_due road =
     den_form ∷ (times (segment_count road) (piece_form ∷ []) ++ (times road.stages (stage_forms road) ++ (opens_form (block_count road) ∷ end_form ∷ [])))
 
 -- the number of the first line that isn't of the form due at its place, or of the missing line where the text ends too early;
 -- where so many lines are of their forms, what is said of those behind them
-abbrev pub misfit_or : List Form → (ℕ → List TextLine → Option ℕ) → ℕ → List TextLine → Option ℕ
+abbrev pub misfit_or : List LineForm → (ℕ → List TextLine → Option ℕ) → ℕ → List TextLine → Option ℕ
 misfit_or [] behind number lines = behind number lines
 misfit_or (form ∷ forms) behind number [] = Some (number + 1)
 misfit_or (form ∷ forms) behind number (line ∷ lines) =

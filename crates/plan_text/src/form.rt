@@ -24,9 +24,9 @@ pub(crate) struct Form<'a> {
 }
 
 impl<'a> Model for Form<'a> {
-    ghost use Rattle.plan_text.specs.LineForms.{Form as FormOf};
+    ghost use Rattle.plan_text.specs.LineForms.{LineForm};
 
-    ghost Value = { FormOf };
+    ghost Value = { LineForm };
 
     ghost view = { λ f. record { keyword = f.keyword.now; count = f.count; low = f.low; high = f.high } };
 }

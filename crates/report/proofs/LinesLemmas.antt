@@ -4,8 +4,8 @@ use Rattle.std.specs.Prelude.{Bool, true, false, if◌then◌else◌, Result, Ok
 use Rattle.std.proofs.lemmas.List.{append-nil}
 use Rattle.csv.specs.Writing.{default_writer, row_text}
 use Rattle.algebra.specs.Lists.{flat_to}
-use Rattle.report.specs.Lines.{Cell, text, Line, alone, row, IsShown, AreShown, IsLine, AreLines, Adds}
-use Rattle.report.specs.Reports.{said}
+use Rattle.report.specs.Lines.{Cell, text, Line, alone, row, IsWrittenAs, AreWrittenAs, IsLine, AreLines, Adds}
+use Rattle.report.specs.Reports.{said_line}
 
 -- no line
 pub nothing_added : (before : List ℕ) → Adds [] before before
@@ -15,31 +15,31 @@ line_added : (line : Line) (bytes before after : List ℕ) → IsLine line bytes
 line_added line bytes before after h e = record { added = bytes; are_lines = (bytes, [], h, refl, sym (append-nil bytes)); behind = e }
 
 -- a cell by itself
-pub alone_added : (cell : Cell) (shown before after : List ℕ) → IsShown cell shown → after ≡ before ++ (shown ++ codes "\n") → Adds (alone cell ∷ []) before after
+pub alone_added : (cell : Cell) (shown before after : List ℕ) → IsWrittenAs cell shown → after ≡ before ++ (shown ++ codes "\n") → Adds (alone cell ∷ []) before after
 alone_added cell shown before after h e =
     line_added (alone cell) (shown ++ codes "\n") before after (record { shown = shown; is_shown = h; ends = refl }) e
 
-pub said_added : (t before after : List ℕ) → after ≡ before ++ (t ++ codes "\n") → Adds (said t ∷ []) before after
+pub said_added : (t before after : List ℕ) → after ≡ before ++ (t ++ codes "\n") → Adds (said_line t ∷ []) before after
 said_added t before after e = alone_added (text t) t before after refl e
 
 -- a row
-row_added : (cells : List Cell) (shown : List (List ℕ)) (before after : List ℕ) → AreShown cells shown → after ≡ before ++ row_text default_writer shown
+row_added : (cells : List Cell) (shown : List (List ℕ)) (before after : List ℕ) → AreWrittenAs cells shown → after ≡ before ++ row_text default_writer shown
     → Adds (row cells ∷ []) before after
 row_added cells shown before after h e =
     line_added (row cells) (row_text default_writer shown) before after (record { shown = shown; are_shown = h; is_record = refl }) e
 
-pub two_cells : (a b : Cell) (s t : List ℕ) (before after : List ℕ) → IsShown a s → IsShown b t → after ≡ before ++ row_text default_writer (s ∷ t ∷ []) → Adds (row (a ∷ b ∷ []) ∷ []) before after
+pub two_cells : (a b : Cell) (s t : List ℕ) (before after : List ℕ) → IsWrittenAs a s → IsWrittenAs b t → after ≡ before ++ row_text default_writer (s ∷ t ∷ []) → Adds (row (a ∷ b ∷ []) ∷ []) before after
 two_cells a b s t before after p q e = row_added (a ∷ b ∷ []) (s ∷ t ∷ []) before after (p, (q, tt)) e
 
-pub three_cells : (a b c : Cell) (s t u : List ℕ) (before after : List ℕ) → IsShown a s → IsShown b t → IsShown c u
+pub three_cells : (a b c : Cell) (s t u : List ℕ) (before after : List ℕ) → IsWrittenAs a s → IsWrittenAs b t → IsWrittenAs c u
     → after ≡ before ++ row_text default_writer (s ∷ t ∷ u ∷ []) → Adds (row (a ∷ b ∷ c ∷ []) ∷ []) before after
 three_cells a b c s t u before after p q r e = row_added (a ∷ b ∷ c ∷ []) (s ∷ t ∷ u ∷ []) before after (p, (q, (r, tt))) e
 
-pub four_cells : (a b c d : Cell) (s t u v : List ℕ) (before after : List ℕ) → IsShown a s → IsShown b t → IsShown c u → IsShown d v
+pub four_cells : (a b c d : Cell) (s t u v : List ℕ) (before after : List ℕ) → IsWrittenAs a s → IsWrittenAs b t → IsWrittenAs c u → IsWrittenAs d v
     → after ≡ before ++ row_text default_writer (s ∷ t ∷ u ∷ v ∷ []) → Adds (row (a ∷ b ∷ c ∷ d ∷ []) ∷ []) before after
 four_cells a b c d s t u v before after p q r w e = row_added (a ∷ b ∷ c ∷ d ∷ []) (s ∷ t ∷ u ∷ v ∷ []) before after (p, (q, (r, (w, tt)))) e
 
-pub seven_cells : (a b c d x y z : Cell) (s t u v k l m : List ℕ) (before after : List ℕ) → IsShown a s → IsShown b t → IsShown c u → IsShown d v → IsShown x k → IsShown y l → IsShown z m
+pub seven_cells : (a b c d x y z : Cell) (s t u v k l m : List ℕ) (before after : List ℕ) → IsWrittenAs a s → IsWrittenAs b t → IsWrittenAs c u → IsWrittenAs d v → IsWrittenAs x k → IsWrittenAs y l → IsWrittenAs z m
     → after ≡ before ++ row_text default_writer (s ∷ t ∷ u ∷ v ∷ k ∷ l ∷ m ∷ []) → Adds (row (a ∷ b ∷ c ∷ d ∷ x ∷ y ∷ z ∷ []) ∷ []) before after
 seven_cells a b c d x y z s t u v k l m before after p q r w f g h e =
     row_added (a ∷ b ∷ c ∷ d ∷ x ∷ y ∷ z ∷ []) (s ∷ t ∷ u ∷ v ∷ k ∷ l ∷ m ∷ []) before after (p, (q, (r, (w, (f, (g, (h, tt))))))) e

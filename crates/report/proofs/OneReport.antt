@@ -6,7 +6,7 @@ use Rattle.std.proofs.lemmas.Bool.Decides.{Decides-int_eq}
 use Rattle.csv.specs.Writing.{default_writer, row_text}
 use Rattle.numbers.specs.Fractions.{Fraction, HasValue, fraction_text}
 use Rattle.numbers.proofs.FractionsLemmas.{same_value_fraction}
-use Rattle.report.specs.Lines.{Cell, text, ratio, gap, Line, alone, row, ShowsGap, IsShown, AreShown, IsLine, AreLines, Adds}
+use Rattle.report.specs.Lines.{Cell, text, ratio, gap, Line, alone, row, ShowsGap, IsWrittenAs, AreWrittenAs, IsLine, AreLines, Adds}
 
 has_value : (num den : ℤ) (f : Fraction) → HasValue f num den ⊎ (¬ HasValue f num den)
 has_value num den f = by_tests (int_eq den (pos 0)) (int_eq (f.num *ℤ den) (num *ℤ f.den)) (Decides-int_eq den (pos 0)) (Decides-int_eq (f.num *ℤ den) (num *ℤ f.den))
@@ -20,13 +20,13 @@ one_gap : (num den : ℤ) (bound : Fraction) (a b : List ℕ) → HasValue bound
 one_gap num den bound a b (inl v) h k = h.closed v ∙ sym (k.closed v)
 one_gap num den bound a b (inr n) h k = h.still_open n ∙ sym (k.still_open n)
 
-one_cell : (cell : Cell) (a b : List ℕ) → IsShown cell a → IsShown cell b → a ≡ b
+one_cell : (cell : Cell) (a b : List ℕ) → IsWrittenAs cell a → IsWrittenAs cell b → a ≡ b
 one_cell (text t) a b h k = h ∙ sym k
 one_cell (ratio label num den) a b h k =
     h.text_is ∙ ap (λ f. label ++ fraction_text f) (same_value_fraction h.value k.value num den h.lowest k.lowest h.same k.same) ∙ sym k.text_is
 one_cell (gap num den bound) a b h k = one_gap num den bound a b (has_value num den bound) h k
 
-one_row : (cells : List Cell) (a b : List (List ℕ)) → AreShown cells a → AreShown cells b → a ≡ b
+one_row : (cells : List Cell) (a b : List (List ℕ)) → AreWrittenAs cells a → AreWrittenAs cells b → a ≡ b
 one_row [] [] [] h k = refl
 one_row [] [] (t ∷ b) h k = absurd k
 one_row [] (s ∷ a) b h k = absurd h

@@ -27,33 +27,33 @@ pub record ShowsGap (num den : ℤ) (bound : Fraction) (shown : List ℕ) : Type
   pub closed : HasValue bound num den → shown ≡ codes "gap none"
   pub still_open : ¬ HasValue bound num den → shown ≡ codes "gap open"
 
-abbrev pub IsShown : Cell → List ℕ → Type 0
-IsShown (text t) shown = shown ≡ t
-IsShown (ratio label num den) shown = ShowsRatio label num den shown
-IsShown (gap num den bound) shown = ShowsGap num den bound shown
+abbrev pub IsWrittenAs : Cell → List ℕ → Type 0
+IsWrittenAs (text t) shown = shown ≡ t
+IsWrittenAs (ratio label num den) shown = ShowsRatio label num den shown
+IsWrittenAs (gap num den bound) shown = ShowsGap num den bound shown
 
 -- the cells of a row, each shown
-abbrev pub AreShown : List Cell → List (List ℕ) → Type 0
-AreShown [] [] = Unit {0}
-AreShown [] (s ∷ shown) = ⊥
-AreShown (c ∷ cells) [] = ⊥
-AreShown (c ∷ cells) (s ∷ shown) = IsShown c s × AreShown cells shown
+abbrev pub AreWrittenAs : List Cell → List (List ℕ) → Type 0
+AreWrittenAs [] [] = Unit {0}
+AreWrittenAs [] (s ∷ shown) = ⊥
+AreWrittenAs (c ∷ cells) [] = ⊥
+AreWrittenAs (c ∷ cells) (s ∷ shown) = IsWrittenAs c s × AreWrittenAs cells shown
 
 -- the bytes are this cell and the byte 10
 pub record IsAlone (cell : Cell) (bytes : List ℕ) : Type 0 where
   pub shown : List ℕ
-  pub is_shown : IsShown cell shown
+  pub is_shown : IsWrittenAs cell shown
   pub ends : bytes ≡ shown ++ codes "\n"
 
 -- the bytes are the record of these cells, quoted only where necessary, with the byte 10
-pub record IsRow (cells : List Cell) (bytes : List ℕ) : Type 0 where
+pub record IsTableRow (cells : List Cell) (bytes : List ℕ) : Type 0 where
   pub shown : List (List ℕ)
-  pub are_shown : AreShown cells shown
+  pub are_shown : AreWrittenAs cells shown
   pub is_record : bytes ≡ row_text default_writer shown
 
 abbrev pub IsLine : Line → List ℕ → Type 0
 IsLine (alone cell) bytes = IsAlone cell bytes
-IsLine (row cells) bytes = IsRow cells bytes
+IsLine (row cells) bytes = IsTableRow cells bytes
 
 -- the bytes are these lines, one behind the other
 abbrev pub AreLines : List Line → List ℕ → Type 0

@@ -25,8 +25,8 @@ abbrev pub over_den : Plan → ℤ → Cell
 over_den plan num = ratio [] num plan.den
 
 -- a line that is this text
-abbrev pub said : List ℕ → Line
-said t = alone (text t)
+abbrev pub said_line : List ℕ → Line
+said_line t = alone (text t)
 
 -- ---- the rows of each table
 
@@ -99,8 +99,8 @@ cost_line plan item cost = row (text item ∷ over_den plan cost ∷ [])
 
 unfoldable pub profile_table : Road → Plan → List Line
 profile_table road plan =
-    said (codes "profile")
-    ∷ said (codes "section,station,metres,ground,height,offset,net")
+    said_line (codes "profile")
+    ∷ said_line (codes "section,station,metres,ground,height,offset,net")
     ∷ flat_to (λ i. profile_line road plan i ∷ []) (section_count road)
 
 unfoldable pub earthwork_of_stage : Road → Plan → ℕ → List Line
@@ -108,8 +108,8 @@ earthwork_of_stage road plan t = flat_to (earthwork_lines plan t) (section_count
 
 unfoldable pub earthwork_table : Road → Plan → List Line
 earthwork_table road plan =
-    said (codes "earthwork")
-    ∷ said (codes "stage,section,cut,fill")
+    said_line (codes "earthwork")
+    ∷ said_line (codes "stage,section,cut,fill")
     ∷ flat_to (earthwork_of_stage road plan) road.stages
 
 -- hauls to the right, then to the left, then over access roads
@@ -121,20 +121,20 @@ hauls_of_stage road plan t =
 
 unfoldable pub haul_table : Road → Plan → List Line
 haul_table road plan =
-    said (codes "haul")
-    ∷ said (codes "stage,from,to,litres")
+    said_line (codes "haul")
+    ∷ said_line (codes "stage,from,to,litres")
     ∷ flat_to (hauls_of_stage road plan) road.stages
 
 unfoldable pub blocks_table : Road → Plan → List Line
 blocks_table road plan =
-    said (codes "blocks")
-    ∷ said (codes "block,section,stage")
+    said_line (codes "blocks")
+    ∷ said_line (codes "block,section,stage")
     ∷ flat_to (λ k. block_line road plan k ∷ []) (block_count road)
 
 unfoldable pub costs_table : Road → Plan → List Line
 costs_table road plan =
-    said (codes "costs")
-    ∷ said (codes "item,cost")
+    said_line (codes "costs")
+    ∷ said_line (codes "item,cost")
     ∷ cost_line plan (codes "cut") (cut_total road plan)
     ∷ cost_line plan (codes "fill") (fill_total road plan)
     ∷ cost_line plan (codes "haul") (haul_total road plan)
@@ -162,16 +162,16 @@ leaves_text leaves =
 
 -- cost and gap beside a bound
 unfoldable pub bounded_lines : Road → Option Plan → Fraction → List Line
-bounded_lines road None bound = said (codes "cost none") ∷ said (bound_text bound) ∷ said (codes "gap open") ∷ []
+bounded_lines road None bound = said_line (codes "cost none") ∷ said_line (bound_text bound) ∷ said_line (codes "gap open") ∷ []
 bounded_lines road (Some plan) bound =
     alone (ratio (codes "cost ") (cost_of road plan) plan.den)
-    ∷ said (bound_text bound)
+    ∷ said_line (bound_text bound)
     ∷ alone (gap (cost_of road plan) plan.den bound)
     ∷ []
 
 -- where no bound stands no plan is admissible
 unfoldable pub found_lines : Road → Option Plan → Option Fraction → List Line
-found_lines road plan None = said (codes "no plan") ∷ []
+found_lines road plan None = said_line (codes "no plan") ∷ []
 found_lines road plan (Some bound) = bounded_lines road plan bound
 
 unfoldable pub found_tables : Road → Option Plan → List Line
@@ -181,7 +181,7 @@ found_tables road (Some plan) = plan_tables road plan
 -- the report of a plan, if one was found, a bound of all costs, if one stands, and the open leaves
 unfoldable pub report_lines : Road → Option Plan → Option Fraction → OpenLeaves → List Line
 report_lines road plan bound leaves =
-    (said (sizes_text road) ∷ []) ++ (found_lines road plan bound ++ ((said (leaves_text leaves) ∷ []) ++ found_tables road plan))
+    (said_line (sizes_text road) ∷ []) ++ (found_lines road plan bound ++ ((said_line (leaves_text leaves) ∷ []) ++ found_tables road plan))
 
 -- the bytes are that report
 abbrev pub IsReport : Road → Option Plan → Option Fraction → OpenLeaves → List ℕ → Type 0

@@ -13,7 +13,7 @@ ghost use Rattle.plan_rules.specs.Rules.{IsAdmissible, height_at, offset_of};
 ghost use Rattle.plan_rules.specs.Plans.{amount};
 ghost use Rattle.report.specs.Lines.{Adds, ShowsRatio};
 ghost use Rattle.report.specs.Reports.{profile_line, work_lines, earthwork_lines, haul_lines, right_lines, left_lines, access_lines, block_line};
-ghost use Rattle.report.specs.inside.Listings.{entry_lines, entry_count, listing_lines};
+ghost use Rattle.report.specs.inside.Listings.{entry_lines, listing_count, listing_lines};
 
 use crate::cells::{are_nothing, at_pit, at_section, is_nothing, number, opening, over_den, whole};
 use crate::lines::push_row;
@@ -381,8 +381,8 @@ fn push_block(
 
 impl Listing {
     /// How many entries are listed.
-    fn entry_count(self, road: &Road) -> usize
-        ensures { result ≡ entry_count road.now self }
+    fn listing_count(self, road: &Road) -> usize
+        ensures { result ≡ listing_count road.now self }
     {
         match self {
             Listing::Profile | Listing::Earthwork => road.sections.len(),
@@ -406,7 +406,7 @@ impl Listing {
         requires accepted { road_fault road.now ≡ None }
         requires fits { Fits road.now plan.now }
         requires admissible { IsAdmissible road.now plan.now }
-        requires number { IsNumber number (entry_count road.now self) }
+        requires number { IsNumber number (listing_count road.now self) }
         ensures { IfOk result (λ _. Adds (entry_lines road.now plan.now self stage number) out.old.items out.new.items) }
     {
         match self {
@@ -434,7 +434,7 @@ impl Listing {
         requires admissible { IsAdmissible road.now plan.now }
         ensures { IfOk result (λ _. Adds (listing_lines road.now plan.now self stage) out.old.items out.new.items) }
     {
-        for before in 0..self.entry_count(road) {
+        for before in 0..self.listing_count(road) {
             self.push_entry(alloc, road, plan, stage, before + 1, out)?;
         }
         Ok(())

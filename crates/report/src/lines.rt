@@ -2,7 +2,7 @@
 ghost use Rattle.std.specs.Prelude.{◌≡◌, ◌++◌, ◌∷◌, [], IfOk, map, codes};
 ghost use Rattle.csv.specs.Writing.{default_writer, row_text};
 ghost use Rattle.report.specs.Lines.{Adds};
-ghost use Rattle.report.specs.Reports.{said};
+ghost use Rattle.report.specs.Reports.{said_line};
 
 use csv::WriterBuilder;
 use std::alloc::{AllocError, Global};
@@ -18,7 +18,7 @@ pub(crate) fn push_line(line: &str, out: &mut Vec<u8>) -> Result<(), AllocError>
 
 /// Adds a line that is this text.
 pub(crate) fn push_said(line: &str, out: &mut Vec<u8>) -> Result<(), AllocError>
-    ensures { IfOk result (λ _. Adds (said line.now ∷ []) out.old.items out.new.items) }
+    ensures { IfOk result (λ _. Adds (said_line line.now ∷ []) out.old.items out.new.items) }
 {
     push_line(line, out)
 }

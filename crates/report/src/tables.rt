@@ -7,7 +7,7 @@ ghost use Rattle.road_types.specs.Road.{hop_count, access_count};
 ghost use Rattle.plan_rules.specs.Fits.{Fits};
 ghost use Rattle.plan_rules.specs.Rules.{IsAdmissible};
 ghost use Rattle.report.specs.Lines.{Adds};
-ghost use Rattle.report.specs.Reports.{said, left_lines, access_lines, profile_table, earthwork_of_stage, earthwork_table, hauls_of_stage, haul_table, blocks_table, costs_table, plan_tables, cost_line};
+ghost use Rattle.report.specs.Reports.{said_line, left_lines, access_lines, profile_table, earthwork_of_stage, earthwork_table, hauls_of_stage, haul_table, blocks_table, costs_table, plan_tables, cost_line};
 ghost use Rattle.report.specs.inside.Listings.{cost_lines};
 
 use crate::cells::over_den;
@@ -20,7 +20,7 @@ use std::alloc::{AllocError, Global};
 
 /// Adds the name and the header of a table.
 fn push_heading(name: &str, header: &str, out: &mut Vec<u8>) -> Result<(), AllocError>
-    ensures { IfOk result (λ _. Adds (said name.now ∷ said header.now ∷ []) out.old.items out.new.items) }
+    ensures { IfOk result (λ _. Adds (said_line name.now ∷ said_line header.now ∷ []) out.old.items out.new.items) }
 {
     push_said(name, out)?;
     push_said(header, out)

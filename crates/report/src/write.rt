@@ -6,7 +6,7 @@ ghost use Rattle.plan_rules.specs.Costs.{cost_of};
 ghost use Rattle.plan_rules.specs.Fits.{Fits};
 ghost use Rattle.plan_rules.specs.Rules.{IsAdmissible};
 ghost use Rattle.report.specs.Lines.{Adds, alone, ratio, gap};
-ghost use Rattle.report.specs.Reports.{said, sizes_text, leaves_text, bounded_lines, found_lines, found_tables, report_lines, plan_found, bound_found, IsReportable};
+ghost use Rattle.report.specs.Reports.{said_line, sizes_text, leaves_text, bounded_lines, found_lines, found_tables, report_lines, plan_found, bound_found, IsReportable};
 
 use crate::cells::{bound_text, cost_text, gap_text, leaves_text, sizes_text};
 use crate::lines::{push_line, push_said};
@@ -62,7 +62,7 @@ fn push_behind_sizes(
 ) -> Result<(), AllocError>
     requires accepted { road_fault road.now ≡ None }
     requires reportable { IsReportable road.now (plan_found found.now) }
-    ensures { IfOk result (λ _. Adds (found_lines road.now (plan_found found.now) (bound_found found.now) ++ ((said (leaves_text leaves) ∷ []) ++ found_tables road.now (plan_found found.now)))
+    ensures { IfOk result (λ _. Adds (found_lines road.now (plan_found found.now) (bound_found found.now) ++ ((said_line (leaves_text leaves) ∷ []) ++ found_tables road.now (plan_found found.now)))
         out.old.items out.new.items) }
 {
     push_found(alloc, road, found, out)?;
@@ -78,7 +78,7 @@ fn push_behind_found(
 ) -> Result<(), AllocError>
     requires accepted { road_fault road.now ≡ None }
     requires reportable { IsReportable road.now (plan_found found.now) }
-    ensures { IfOk result (λ _. Adds ((said (leaves_text leaves) ∷ []) ++ found_tables road.now (plan_found found.now)) out.old.items out.new.items) }
+    ensures { IfOk result (λ _. Adds ((said_line (leaves_text leaves) ∷ []) ++ found_tables road.now (plan_found found.now)) out.old.items out.new.items) }
 {
     push_leaves(alloc, leaves, out)?;
     push_found_tables(alloc, road, found, out)
@@ -104,7 +104,7 @@ fn push_found_tables(
 
 /// Adds the line of the road's sizes.
 fn push_sizes(alloc: Global, road: &Road, out: &mut Vec<u8>) -> Result<(), AllocError>
-    ensures { IfOk result (λ _. Adds (said (sizes_text road.now) ∷ []) out.old.items out.new.items) }
+    ensures { IfOk result (λ _. Adds (said_line (sizes_text road.now) ∷ []) out.old.items out.new.items) }
 {
     let text = sizes_text(alloc, road)?;
     push_said(text.as_str(), out)
@@ -112,7 +112,7 @@ fn push_sizes(alloc: Global, road: &Road, out: &mut Vec<u8>) -> Result<(), Alloc
 
 /// Adds the line of the leaves that were left open.
 fn push_leaves(alloc: Global, leaves: OpenLeaves, out: &mut Vec<u8>) -> Result<(), AllocError>
-    ensures { IfOk result (λ _. Adds (said (leaves_text leaves) ∷ []) out.old.items out.new.items) }
+    ensures { IfOk result (λ _. Adds (said_line (leaves_text leaves) ∷ []) out.old.items out.new.items) }
 {
     let text = leaves_text(alloc, leaves)?;
     push_said(text.as_str(), out)
@@ -139,7 +139,7 @@ fn push_found(
 
 /// Adds the line of a bound.
 fn push_bound(alloc: Global, bound: &Frac, out: &mut Vec<u8>) -> Result<(), AllocError>
-    ensures { IfOk result (λ _. Adds (said (bound_text bound.now) ∷ []) out.old.items out.new.items) }
+    ensures { IfOk result (λ _. Adds (said_line (bound_text bound.now) ∷ []) out.old.items out.new.items) }
 {
     let text = bound_text(alloc, bound)?;
     push_said(text.as_str(), out)

@@ -13,7 +13,7 @@ use Rattle.roadopt_program.specs.declared.forms.Verb.TheVariants.{Judge, Check, 
 use Rattle.roadopt_program.specs.declared.inputs.Lost.{Lost}
 use Rattle.roadopt_program.specs.Due.{road_due, FollowsRoad, Follows}
 use Rattle.roadopt_program.specs.Ends.{End, missing_end}
-use Rattle.roadopt_program.specs.Forms.{RoadCommand}
+use Rattle.roadopt_program.specs.CommandWords.{RoadCommand}
 use Rattle.roadopt_program.specs.Inputs.{IsGiven, IsGivenWithin, other_limit}
 use Rattle.roadopt_program.specs.Solving.{Solves}
 use Rattle.roadopt_program.specs.inside.Outcomes.{end_of, made_end, OfBytes, IsRoadRead, IsMadeOnRoad, IsMade}

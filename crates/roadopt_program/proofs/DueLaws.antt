@@ -20,8 +20,8 @@ use Rattle.roadopt_program.specs.declared.status.Status.{Status}
 use Rattle.roadopt_program.specs.declared.status.Status.TheVariants.{Done, Gap, RoadRefused, PlanBroken, PlanRefused, CertRefused, Missing}
 use Rattle.roadopt_program.specs.Due.{◌>>=◌, keeps_rules, is_table_there, road_due, FollowsRoad, Follows, IsDueOnRoad, IsDue, Due}
 use Rattle.roadopt_program.specs.Ends.{End, said, missing_end}
-use Rattle.roadopt_program.specs.Forms.{RoadCommand, Command, on_road, trial, command_of}
-use Rattle.roadopt_program.specs.Inputs.{Given, IsGivenWithin, IsGivenIfNamed, table_named, road_limit, other_limit}
+use Rattle.roadopt_program.specs.CommandWords.{RoadCommand, Command, on_road, trial, command_of}
+use Rattle.roadopt_program.specs.Inputs.{GivenFiles, IsGivenWithin, IsGivenIfNamed, table_named, road_limit, other_limit}
 use Rattle.roadopt_program.specs.Judging.{PrintsFraction, PrintsFirstBroken, PrintsRefusedLine, OfPlan, JudgesText, OfPlanBytes, Judges}
 use Rattle.roadopt_program.specs.Printed.{plan_refused_line, broken_line, admissible_line, cert_refused_line, valid_line, trial_line, road_refused_line}
 use Rattle.roadopt_program.specs.CertChecking.{PrintsValid, PrintsRefusal, OfCertBytes, Checks}
@@ -51,7 +51,7 @@ use Rattle.roadopt_program.proofs.StatusLemmas.{may_be_due}
 same_ok : {A E : Type 0} (r : Result A E) (x y : A) → r ≡ Ok x → r ≡ Ok y → x ≡ y
 same_ok r x y p q = cc
 
-same_some : {A : Type 0} (o : Option A) (x y : A) → o ≡ Some x → o ≡ Some y → x ≡ y
+pub same_some : {A : Type 0} (o : Option A) (x y : A) → o ≡ Some x → o ≡ Some y → x ≡ y
 same_some o x y p q = cc
 
 same_number : (n m : ℕ) → (n < m → ⊥) → (m < n → ⊥) → n ≡ m
@@ -189,10 +189,10 @@ same_replayed road acc bytes _ t l k a b = absurd a
 same_end : (a b : End) → a.status ≡ b.status → a.output ≡ b.output → a.file ≡ b.file → a ≡ b
 same_end a b p q r = λ i. record { status = p i; output = q i; file = r i }
 
-same_given : (g h : Given) → g.road ≡ h.road → g.table ≡ h.table → g.other ≡ h.other → g ≡ h
+same_given : (g h : GivenFiles) → g.road ≡ h.road → g.table ≡ h.table → g.other ≡ h.other → g ≡ h
 same_given g h p q r = λ i. record { road = p i; table = q i; other = r i }
 
-same_if_named : (files : Files) (name : Option (List ℕ)) (most : ℕ) (a b : Option (List ℕ)) → IsGivenIfNamed (Some files) name most a → IsGivenIfNamed (Some files) name most b → a ≡ b
+pub same_if_named : (files : Files) (name : Option (List ℕ)) (most : ℕ) (a b : Option (List ℕ)) → IsGivenIfNamed (Some files) name most a → IsGivenIfNamed (Some files) name most b → a ≡ b
 same_if_named files None most a b p q = p ∙ sym q
 same_if_named files (Some name) most a b p q = p ∙ sym q
 
@@ -266,7 +266,7 @@ given_is files command found other a b p q =
 same_due : (files : Files) (command : RoadCommand) (found : Option Found) (a b : End) → IsDueOnRoad (Some files) command found a → IsDueOnRoad (Some files) command found b → a ≡ b
 same_due files command found a b p q =
     same_after command.verb (road_due p.given.road p.given.table) command.other p.given.other found a b p.follows
-    (subst (λ (g : Given). Follows command.verb (road_due g.road g.table) command.other g.other found b) (given_is files command found found a b p q) q.follows)
+    (subst (λ (g : GivenFiles). Follows command.verb (road_due g.road g.table) command.other g.other found b) (given_is files command found found a b p q) q.follows)
 
 same_told_for : (files : Files) (command : Command) (found : Option Found) (a b : End) → IsDue (Some files) command found a → IsDue (Some files) command found b → a ≡ b
 same_told_for files (on_road command) found a b p q = same_due files command found a b p q
@@ -301,7 +301,7 @@ some_after found other a b verb (Ok road) name bytes p q none = some_search foun
 none_on_road : (files : Files) (command : RoadCommand) (found other : Option Found) (a b : End) → IsDueOnRoad (Some files) command found a → IsDueOnRoad (Some files) command other b → found ≡ None → other ≡ None
 none_on_road files command found other a b p q none =
     some_after found other a b command.verb (road_due p.given.road p.given.table) command.other p.given.other p.follows
-    (subst (λ (g : Given). Follows command.verb (road_due g.road g.table) command.other g.other other b) (given_is files command found other a b p q) q.follows) none
+    (subst (λ (g : GivenFiles). Follows command.verb (road_due g.road g.table) command.other g.other other b) (given_is files command found other a b p q) q.follows) none
 
 none_for : (files : Files) (command : Command) (other : Option Found) (a b : End) → IsDue (Some files) command None a → IsDue (Some files) command other b → other ≡ None
 none_for files (on_road command) other a b p q = none_on_road files command None other a b p q refl

@@ -1,7 +1,7 @@
 -- The command of a list of words, by its length.
 use Rattle.std.specs.Prelude.{ℕ, ◌≢◌, None, List, [], ◌∷◌, length, map}
 use Rattle.std.proofs.Common.{◌≡◌, get_or, refl, arith}
-use Rattle.roadopt_program.specs.Forms.{verb_of, over_files, over_number, command_of}
+use Rattle.roadopt_program.specs.CommandWords.{verb_of, over_files, over_number, command_of}
 
 pub command_of-other : {A : Type 0} (f : A → List ℕ) (words : List A) → length words ≢ 2 → length words ≢ 3 → None ≡ command_of (map f words)
 unfolding command_of

@@ -29,7 +29,7 @@ use Rattle.cert_text.specs.Validity.{IsValidText, IsUnbeaten, longest_text, stat
 use Rattle.cert_text.specs.declared.cert.Cert.{Cert}
 use Rattle.cert_report.specs.CertReport.{open_leaves, plan_stated, cert_lines}
 use Rattle.report.specs.Lines.{Line, AreLines}
-use Rattle.report.specs.Reports.{said as said_line, sizes_text, leaves_text, found_lines, found_tables, report_lines, profile_table, earthwork_table, haul_table, blocks_table, costs_table, plan_tables}
+use Rattle.report.specs.Reports.{said_line, sizes_text, leaves_text, found_lines, found_tables, report_lines, profile_table, earthwork_table, haul_table, blocks_table, costs_table, plan_tables}
 use Rattle.report.specs.declared.findings.OpenLeaves.{OpenLeaves}
 use Rattle.trial_roads.specs.TrialRoads.{trial_road}
 use Rattle.branch_bound.specs.declared.finding.Found.{Found}
@@ -46,7 +46,7 @@ use Rattle.roadopt_program.specs.CertChecking.{PrintsValid, Checks}
 use Rattle.roadopt_program.specs.Replaying.{Replays}
 use Rattle.roadopt_program.specs.Due.{road_due, Follows, IsDueOnRoad, IsDue, Due}
 use Rattle.roadopt_program.specs.Ends.{End, Output, after_fault, files_with, said}
-use Rattle.roadopt_program.specs.Forms.{Command, on_road, trial, command_of}
+use Rattle.roadopt_program.specs.CommandWords.{Command, on_road, trial, command_of}
 use Rattle.roadopt_program.specs.Headline.{IsRoadOf, IsOpenNote, ShowsOpenLeaf, ShowsWhy, SumsTo, IsSolved, HoldsCert, PutsOut, HasSolved, KeepsSolve, HasTried, KeepsTrial}
 use Rattle.roadopt_program.specs.Inputs.{road_limit, cert_limit, IsGiven, IsGivenIfNamed, table_named}
 use Rattle.roadopt_program.specs.Printed.{valid_line, trial_line}
@@ -55,7 +55,7 @@ use Rattle.roadopt_program.specs.Solving.{HasStatus, SolvesBy, Solves}
 use Rattle.roadopt_program.specs.Trying.{TriesBy, Tries}
 use Rattle.roadopt_program.specs.Statuses.{is_answer}
 use Rattle.roadopt_program.specs.inside.Outcomes.{Prints, Outcome, TrialOutcome, TriesOnly}
-use Rattle.roadopt_program.proofs.DueLaws.{same_cert, end_kind, found_status}
+use Rattle.roadopt_program.proofs.DueLaws.{same_some, same_if_named, same_cert, end_kind, found_status}
 use Rattle.roadopt_program.proofs.RunLaws.{due_of, HasFailed, finished}
 use Rattle.roadopt_program.proofs.StatusLemmas.{answer_after_fault}
 
@@ -97,7 +97,7 @@ unfolding cost_of
 sums road None None h = tt
 sums road None (Some cost) h = tt
 sums road (Some plan) None h = tt
-sums road (Some plan) (Some cost) h = h.value
+sums road (Some plan) (Some cost) h = h.cost_is.value
 
 all_left : {X : Type 0} (P : X → Type 0) (xs ys : List X) → All P (xs ++ ys) → All P xs
 all_left P [] ys h = All-nil P
@@ -173,7 +173,7 @@ is_solved road found status f h = record {
   sums = sums road found.cert.plan found.cert.cost f.searched.has_plan;
   bound = f.unbeaten;
   checked = valid_text road found f;
-  closed = closed_or_shown road found.cert found.count found.notes f.searched f.searched.ends;
+  gap_shown = closed_or_shown road found.cert found.count found.notes f.searched f.searched.ends;
   searched = subst (λ (n : ℕ). IsSearched road found.cert.plan found.cert.cost found.cert.bound (box_tree_of found.cert.tree) n found.notes) f.searched.counted f.searched;
   certain = certain road found.cert found.count found.notes status f.searched h;
   status_is = h;
@@ -226,13 +226,6 @@ check_due later road_name cert_name road text end short held h = record {
 }
 
 -- ---- `solve`
-
-same_some : {A : Type 0} (o : Option A) (x y : A) → o ≡ Some x → o ≡ Some y → x ≡ y
-same_some o x y p q = cc
-
-same_if_named : (files : Files) (name : Option (List ℕ)) (most : ℕ) (a b : Option (List ℕ)) → IsGivenIfNamed (Some files) name most a → IsGivenIfNamed (Some files) name most b → a ≡ b
-same_if_named files None most a b p q = p ∙ sym q
-same_if_named files (Some name) most a b p q = p ∙ sym q
 
 -- the road that told files give is one
 road_is : (files : Files) (name : List ℕ) (road : Road) (bytes table : Option (List ℕ)) → IsRoadOf (Some files) name (Ok road) → IsGiven (Some files) name road_limit bytes

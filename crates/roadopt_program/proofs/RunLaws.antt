@@ -13,7 +13,7 @@ use Rattle.roadopt_program.specs.declared.status.Status.{Status}
 use Rattle.roadopt_program.specs.declared.status.Status.TheVariants.{Done, Gap, Usage, ReadFault, WriteFault, Missing}
 use Rattle.roadopt_program.specs.Due.{road_due, Follows, IsDue, Due}
 use Rattle.roadopt_program.specs.Ends.{End, NamedBytes, Output, after_fault, files_with, missing_end}
-use Rattle.roadopt_program.specs.Forms.{RoadCommand, Command, on_road, trial, command_of}
+use Rattle.roadopt_program.specs.CommandWords.{RoadCommand, Command, on_road, trial, command_of}
 use Rattle.roadopt_program.specs.Runs.{notes_found, HandsOut, IsAnswered, IsRefused, IsMissing, IsLost, IsGivenUp, Reaches, EndsAsDue}
 use Rattle.roadopt_program.specs.Trying.{Tries}
 use Rattle.roadopt_program.specs.Statuses.{exit_status, is_answer, may_hand_out, is_refusal, is_silent}

@@ -13,8 +13,8 @@ use Rattle.roadopt_program.specs.declared.forms.Verb.{Verb}
 use Rattle.roadopt_program.specs.declared.forms.Verb.TheVariants.{Judge, Check, Replay, Solve}
 use Rattle.roadopt_program.specs.declared.status.Status.TheVariants.{RoadRefused}
 use Rattle.roadopt_program.specs.Ends.{End, said, missing_end}
-use Rattle.roadopt_program.specs.Forms.{RoadCommand, Command, on_road, trial, command_of}
-use Rattle.roadopt_program.specs.Inputs.{Given, AreGiven}
+use Rattle.roadopt_program.specs.CommandWords.{RoadCommand, Command, on_road, trial, command_of}
+use Rattle.roadopt_program.specs.Inputs.{GivenFiles, AreGiven}
 use Rattle.roadopt_program.specs.Judging.{Judges}
 use Rattle.roadopt_program.specs.CertChecking.{Checks}
 use Rattle.roadopt_program.specs.Replaying.{Replays}
@@ -67,7 +67,7 @@ Follows verb (Ok road) name other found end = FollowsRoad verb road name other f
 
 -- the end that is due for a command over two files, where these files are told
 pub record IsDueOnRoad (told : Option Files) (command : RoadCommand) (found : Option Found) (end : End) : Type 0 where
-  pub given : Given
+  pub given : GivenFiles
   pub are_given : AreGiven told command given
   pub follows : Follows command.verb (road_due given.road given.table) command.other given.other found end
 

@@ -1,4 +1,5 @@
 -- What is due at the end of a run, and what was put out of it.
+--     NamedBytes      a file that is to be written: its name and its bytes
 --     End      a status, the bytes that are due for the output, and the file that is written, if any
 --     said status line      an end that writes no file; missing_end is one, of a file that isn't there
 --     files_with told file      the files once the due one is written

@@ -1,7 +1,10 @@
 -- What a run of `solve ROAD CERT` says, and a run of `trial NUMBER`: the plan, the bound and the certificate mean what they say.
 --     IsRoadOf told name made      the road of the named file and of its table, or the end that is due where there is none
---     ShowsOpenLeaf      a leaf was left open below the cost, and its own note is shown
+--     IsOpenNote, ShowsOpenLeaf, ShowsWhy      a leaf was left open below the cost, and its own note, which is one of an open leaf, is shown
+--     SumsTo road plan cost      the cost is the sum of the items of the report's cost table
 --     IsSolved      each sentence of the product's promise, for one certificate
+--     HoldsCert, PutsOut      what stands in the file of the certificate and in the output
+--     HasSolved, HasTried      both together, for the certificate that is handed out
 --     KeepsSolve, KeepsTrial      the promise for words, files and output
 use Rattle.std.specs.Prelude.{◌≡◌, ◌++◌, ℕ, ◌⊎◌, IsTrue, Option, Some, None, IfSome, Result, Ok, List, ◌+ℤ◌}
 use Rattle.std.specs.FinMap.{get}
@@ -38,7 +41,7 @@ use Rattle.roadopt_program.specs.declared.status.Status.{Status}
 use Rattle.roadopt_program.specs.declared.status.Status.TheVariants.{Done}
 use Rattle.roadopt_program.specs.Due.{road_due, IsDueOnRoad}
 use Rattle.roadopt_program.specs.Ends.{End, Output, said}
-use Rattle.roadopt_program.specs.Forms.{on_road, trial, command_of}
+use Rattle.roadopt_program.specs.CommandWords.{on_road, trial, command_of}
 use Rattle.roadopt_program.specs.Inputs.{road_limit, IsGiven, IsGivenIfNamed, table_named}
 use Rattle.roadopt_program.specs.Printed.{valid_line, trial_line}
 use Rattle.roadopt_program.specs.Solving.{HasStatus}
@@ -99,7 +102,7 @@ pub record IsSolved (road : Road) (cert : Cert) (notes : List NodeNote) (status 
   -- its text is that of a valid certificate
   pub checked : IsValidText road (cert_text road (certificate_of cert)) (certificate_of cert)
   -- cost and bound are one, or neither stands, unless a leaf was left open, whose own note shows why
-  pub closed : (cert.cost ≡ cert.bound) ⊎ ShowsWhy road cert notes
+  pub gap_shown : (cert.cost ≡ cert.bound) ⊎ ShowsWhy road cert notes
   -- each node of its tree has its note, each shown, and the tree was grown best first
   pub searched : IsSearched road cert.plan cert.cost cert.bound (box_tree_of cert.tree) (node_count (box_tree_of cert.tree)) notes
   -- where no node's note is a stop and the nodes suffice for as many leaves as the road can have, the run is `Done`

@@ -2,7 +2,7 @@
 --     road_limit, cert_limit      how many bytes of a road or a plan, or of a certificate, are read at the most
 --     IsGiven told name most given      what a read of the named file gives: its bytes up to the limit, or none where there is no such file
 --     table_named road      the name of the section table in what the road's file gives
---     Given, AreGiven told command given      the same for all the files of a command
+--     GivenFiles, AreGiven told command given      the same for all the files of a command
 use Rattle.std.specs.Prelude.{◌≡◌, ℕ, ◌+◌, Option, Some, None, Result, Ok, Err, List, IfSome, take}
 use Rattle.std.specs.Option.{option_map}
 use Rattle.std.specs.FinMap.{get}
@@ -13,7 +13,7 @@ use Rattle.road_file.specs.RoadOf.{table_name_of}
 use Rattle.cert_text.specs.Validity.{longest_text}
 use Rattle.roadopt_program.specs.declared.forms.Verb.{Verb}
 use Rattle.roadopt_program.specs.declared.forms.Verb.TheVariants.{Judge, Check, Replay, Solve}
-use Rattle.roadopt_program.specs.Forms.{RoadCommand}
+use Rattle.roadopt_program.specs.CommandWords.{RoadCommand}
 
 -- one more byte than a road file may have
 unfoldable pub road_limit : ℕ
@@ -55,13 +55,13 @@ IsGivenIfNamed told None most given = given ≡ None
 IsGivenIfNamed told (Some name) most given = IsGiven told name most given
 
 -- what the files of a command hold, none where there is no such file
-pub record Given : Type 0 where
+pub record GivenFiles : Type 0 where
   pub road : Option (List ℕ)
   pub table : Option (List ℕ)
   pub other : Option (List ℕ)
 
 -- these are the files' bytes; the section table is the one that the road's file names
-pub record AreGiven (told : Option Files) (command : RoadCommand) (given : Given) : Type 0 where
+pub record AreGiven (told : Option Files) (command : RoadCommand) (given : GivenFiles) : Type 0 where
   pub road : IsGiven told command.road road_limit given.road
   pub table : IsGivenIfNamed told (table_named given.road) road_limit given.table
   pub other : IsGivenWithin told command.other (other_limit command.verb) given.other

@@ -1,4 +1,4 @@
-pub mod Forms
+pub mod CommandWords
 pub mod Printed
 pub mod Statuses
 pub mod Ends

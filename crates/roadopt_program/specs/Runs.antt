@@ -1,6 +1,8 @@
 -- What stands behind each end of a run, and what a due end makes of a run.
 --     HandsOut found cert notes      what a search found is handed out
 --     IsAnswered, IsRefused, IsMissing, IsLost      by the status of the run
+--     IsUnwritten, IsUnprinted      the two ways in which an answer is lost
+--     IsGivenUp, Reaches      a read failed or memory was wanting; an end is reached, or lost at a put, or the run was given up
 --     EndsAsDue, AnswersSolve, AnswersTrial      the other direction: the run ends as it is due, or with an answer of a search, or something failed
 --     HasOneEnd      told files leave one due end beside what a search found
 use Rattle.std.specs.Prelude.{◌≡◌, ℕ, ◌⊎◌, IsTrue, Option, Some, None, Ok, List, []}
@@ -17,7 +19,7 @@ use Rattle.roadopt_program.specs.declared.status.Status.{Status}
 use Rattle.roadopt_program.specs.declared.status.Status.TheVariants.{ReadFault, WriteFault, NoMemory}
 use Rattle.roadopt_program.specs.Due.{IsDueOnRoad, Due}
 use Rattle.roadopt_program.specs.Ends.{End, NamedBytes, Output, Says, after_fault, files_with, missing_end}
-use Rattle.roadopt_program.specs.Forms.{RoadCommand, on_road, trial, command_of}
+use Rattle.roadopt_program.specs.CommandWords.{RoadCommand, on_road, trial, command_of}
 use Rattle.roadopt_program.specs.Headline.{IsRoadOf}
 use Rattle.roadopt_program.specs.Statuses.{is_answer}
 

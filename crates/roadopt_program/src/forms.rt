@@ -3,7 +3,7 @@ ghost use Rattle.std.specs.Prelude.{◌≡◌, ◌≤◌, ℕ, List, map, length
 ghost use Rattle.std.specs.Option.{option_map};
 ghost use Rattle.std.specs.String.{string_bytes};
 ghost use Rattle.text_parts.specs.Decimal.{whole_of};
-ghost use Rattle.roadopt_program.specs.Forms.{is_empty, verb_of, writes_over, over_files, trial_of, over_number, command_of, on_road, trial};
+ghost use Rattle.roadopt_program.specs.CommandWords.{is_empty, verb_of, writes_over, over_files, trial_of, over_number, command_of, on_road, trial};
 ghost use Rattle.roadopt_program.specs.inside.Called.{called, number_called, IsCallable};
 
 use std::alloc::Global;

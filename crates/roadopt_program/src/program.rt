@@ -4,7 +4,7 @@ ghost use Rattle.std.specs.Option.{option_map};
 ghost use Rattle.std.specs.String.{string_bytes};
 ghost use Rattle.outside.specs.Faults.{HasRisen};
 ghost use Rattle.roadopt_program.specs.Ends.{Says};
-ghost use Rattle.roadopt_program.specs.Forms.{command_of, on_road, trial};
+ghost use Rattle.roadopt_program.specs.CommandWords.{command_of, on_road, trial};
 ghost use Rattle.roadopt_program.specs.Headline.{KeepsSolve, KeepsTrial};
 ghost use Rattle.roadopt_program.specs.Printed.{usage_line};
 ghost use Rattle.roadopt_program.specs.Runs.{IsAnswered, IsRefused, IsMissing, IsLost, EndsAsDue, AnswersSolve, AnswersTrial, HasOneEnd, notes_found};

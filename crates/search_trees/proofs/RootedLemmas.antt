@@ -13,11 +13,11 @@ use Rattle.milp_builder.specs.declared.boxes.Split.{Split}
 use Rattle.cert_tree.specs.Trees.{BoxTree, low, dead, fork, box_tree_of, node_count, AreMultipliersBehind, IsWithinWidths}
 use Rattle.cert_tree.specs.Soundness.{SplitsFit}
 use Rattle.cert_tree.specs.declared.tree.Tree.{Tree}
-use Rattle.search_trees.specs.RootedTrees.{RootedTree, AreNarrow, IsNarrow, is_leaf, IsLeafOf, FitsRoad}
+use Rattle.search_trees.specs.RootedTrees.{RootedTree, AreNarrowPairs, IsNarrow, is_leaf, IsLeafOf, FitsRoad}
 use Rattle.search_trees.specs.Places.{is_leaf_at, box_at, with_tree_at}
 use Rattle.search_trees.proofs.PlaceLemmas.{node_count-with, within-with, fit-with}
 
-narrow_mults : (rows before : ℕ) (mults : List (ℕ × ℤ)) → AreMultipliersBehind rows before mults → AreNarrow mults
+narrow_mults : (rows before : ℕ) (mults : List (ℕ × ℤ)) → AreMultipliersBehind rows before mults → AreNarrowPairs mults
 narrow_mults rows before [] h = let P : ℕ × ℤ → Type 0 = λ m. unsigned_abs m.1 ≤ greatest_scale in All-nil P
 narrow_mults rows before (mult ∷ mults) h =
     let P : ℕ × ℤ → Type 0 = λ m. unsigned_abs m.1 ≤ greatest_scale in All-cons P mult mults h.0.within (narrow_mults rows mult.0 mults h.1)

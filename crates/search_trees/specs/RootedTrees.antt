@@ -16,13 +16,13 @@ pub record RootedTree : Type 0 where
   pub root : BoxRange
 
 -- every multiplier has a magnitude of at most 2^40
-abbrev pub AreNarrow : List (ℕ × ℤ) → Type 0
-AreNarrow mults = All (λ mult. unsigned_abs mult.1 ≤ greatest_scale) mults
+abbrev pub AreNarrowPairs : List (ℕ × ℤ) → Type 0
+AreNarrowPairs mults = All (λ mult. unsigned_abs mult.1 ≤ greatest_scale) mults
 
 -- every scale is from 1 to 2^40, and every multiplier has a magnitude of at most 2^40
 abbrev pub IsNarrow : BoxTree → Type 0
-IsNarrow (low scale mults cause) = IsScale scale × AreNarrow mults
-IsNarrow (dead mults) = AreNarrow mults
+IsNarrow (low scale mults cause) = IsScale scale × AreNarrowPairs mults
+IsNarrow (dead mults) = AreNarrowPairs mults
 IsNarrow (fork split first second) = IsNarrow first × IsNarrow second
 
 -- the tree is one leaf

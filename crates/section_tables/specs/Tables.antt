@@ -18,13 +18,13 @@ unfoldable pub cell_at : {A : Type 0} → (List ℕ → Option A) → ℕ → Li
 cell_at find place cells = field_at cells place >>= find
 
 -- so many columns
-abbrev pub column_count : ℕ
-column_count = 8
+abbrev pub cell_count : ℕ
+cell_count = 8
 
 -- a section's costs, in cost units per litre, and its caps, in litres
 unfoldable pub section_of : List (List ℕ) → Option Section
 section_of fields = do
-  cells ← where_kept (length fields == column_count) fields
+  cells ← where_kept (length fields == cell_count) fields
   station ← cell_at (number_in is_station) 0 cells
   height ← cell_at (number_in is_height) 1 cells
   cut ← cell_at slabs_of 2 cells
@@ -52,7 +52,7 @@ names_prices cells =
 
 -- a record that names the eight columns in their order
 unfoldable pub is_header : List (List ℕ) → Bool
-is_header cells = (length cells == column_count) && names_places cells && names_prices cells
+is_header cells = (length cells == cell_count) && names_places cells && names_prices cells
 
 -- the sections in a table's records
 unfoldable pub sections_in : List (List (List ℕ)) → Option (List Section)

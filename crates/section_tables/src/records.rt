@@ -4,7 +4,7 @@ ghost use Rattle.csv.specs.Records.{fields_of, field_at};
 ghost use Rattle.road_types.specs.RecordFaults.{is_station, is_height, is_cost, is_cap};
 ghost use Rattle.section_tables.specs.Steps.{MayAnswer};
 ghost use Rattle.section_tables.specs.Cells.{number_in, slabs_of};
-ghost use Rattle.section_tables.specs.Tables.{cell_at, section_of, has_name, names_places, names_prices, is_header, column_count};
+ghost use Rattle.section_tables.specs.Tables.{cell_at, section_of, has_name, names_places, names_prices, is_header, cell_count};
 
 use crate::TableErr;
 use crate::cells::{cap, cost, height, slabs, station};
@@ -16,7 +16,7 @@ use std::alloc::Global;
 const COLUMNS: usize = 8;
 
 fn has_all_columns(row: &ByteRecord) -> bool
-    ensures { result ≡ (length (fields_of row.now) == column_count) }
+    ensures { result ≡ (length (fields_of row.now) == cell_count) }
 {
     row.len() == COLUMNS
 }

@@ -1,5 +1,5 @@
 -- Whether a basic value breaks a bound, for equal numbers.
-use Rattle.std.proofs.Common.{◌≡◌, ℕ, ◌≤◌, ◌<◌, List, Bool, arith, ap, sym, ◌∙◌, subst}
+use Rattle.std.proofs.Common.{◌≡◌, ℕ, ◌≤◌, ◌<◌, List, Bool, arith, subst}
 use Rattle.std.specs.Prelude.{Option, Some, None, IfSome, IfNone, IsSome, ◌↔◌, ℤ, ◌+ℤ◌, ◌*ℤ◌, unsigned_abs}
 use Rattle.tableau.specs.Tableaux.{Tableau}
 use Rattle.tableau.specs.Operations.{IsOutOfRange}

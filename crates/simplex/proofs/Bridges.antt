@@ -1,13 +1,12 @@
 -- Values and points of a program, and those of what a tableau is started with.
-use Rattle.std.proofs.Common.{◌≡◌, ℕ, zero, suc, ◌+◌, ◌-◌, ◌≤◌, ◌<◌, List, [], ◌∷◌, ◌++◌, ◌⊎◌, length, get_or, Bool, true, false, arith, ap, sym, ◌∙◌, refl, subst, ⊎_elim}
-use Rattle.std.specs.Prelude.{ℤ, pos, ◌+ℤ◌, ◌-ℤ◌, ◌*ℤ◌, ◌≤ℤ◌, ◌<ℤ◌, nat_le, if◌then◌else◌}
+use Rattle.std.proofs.Common.{◌≡◌, ℕ, zero, suc, ◌+◌, ◌-◌, ◌≤◌, ◌<◌, List, [], ◌∷◌, ◌++◌, ◌⊎◌, length, get_or, true, false, arith, ap, sym, ◌∙◌, refl, subst, ⊎_elim}
+use Rattle.std.specs.Prelude.{ℤ, pos, ◌+ℤ◌, ◌-ℤ◌, ◌*ℤ◌, ◌≤ℤ◌}
 use Rattle.std.specs.Int.{int_min}
-use Rattle.std.specs.List.{All}
 use Rattle.std.proofs.lemmas.Int.{ints}
 use Rattle.std.proofs.lemmas.List.{get_or_append_left, get_or-append_right}
 use Rattle.algebra.specs.Sums.{sum_to}
 use Rattle.algebra.specs.Lists.{list_to}
-use Rattle.algebra.specs.Numbered.{numbered, IsNumber}
+use Rattle.algebra.specs.Numbered.{numbered}
 use Rattle.algebra.proofs.ListsLemmas.{length-list_to, list_to_entry}
 use Rattle.algebra.proofs.NumberedLemmas.{all_from_numbers, same_by_number}
 use Rattle.algebra.proofs.Products.{int_mul_comm}
@@ -15,10 +14,10 @@ use Rattle.algebra.proofs.SumsLemmas.{sum_to_ext}
 use Rattle.term_store.specs.declared.side.Side.{Side}
 use Rattle.term_store.specs.declared.side.Side.TheVariants.{Equal, AtLeast}
 use Rattle.programs.specs.Programs.{Program, ProgramRow, column_count, row_count, bounds_at, cost_at, row_at, coefficient, empty_row}
-use Rattle.programs.specs.Points.{numerator_at, value_at, Satisfies, MeetsRow, IsInBounds, IsPoint, cost_share, cost_of_point}
+use Rattle.programs.specs.Points.{numerator_at, value_at, Satisfies, MeetsRow, IsPoint, cost_share, cost_of_point}
 use Rattle.programs.proofs.PointsLemmas.{value_by_columns}
-use Rattle.safe_bounds.specs.Values.{multiplier_at, rights_value, combined, reduced_cost, column_value, value_of, HasRightSigns}
-use Rattle.tableau.specs.Programs.{last_column, row_value, cost_value, HasSlacks, IsInBounds as LiesInBounds}
+use Rattle.safe_bounds.specs.Values.{rights_value, combined, reduced_cost, column_value, value_of, HasRightSigns}
+use Rattle.tableau.specs.Programs.{row_value, cost_value, HasSlacks, LiesInBounds}
 use Rattle.tableau.specs.Ends.{dual_value, reduced_cost as left_cost}
 use Rattle.simplex.specs.Givens.{given_of, low_at, high_at, has_high_at, is_equation}
 

@@ -1,16 +1,15 @@
 -- Least common denominators of basic values, joined one by one, and the point over one.
-use Rattle.std.proofs.Common.{◌≡◌, ℕ, zero, suc, ◌+◌, ◌*◌, ◌≤◌, ◌<◌, ◌⊎◌, inl, inr, arith, ap, sym, ◌∙◌, refl, subst, ⊎_elim}
-use Rattle.std.specs.Prelude.{ℤ, pos, neg_ℤ, ◌≢◌, ◌+ℤ◌, ◌*ℤ◌, ◌<ℤ◌, ◌≤ℤ◌, unsigned_abs}
+use Rattle.std.proofs.Common.{◌≡◌, ℕ, ◌+◌, ◌*◌, ◌≤◌, ◌<◌, ◌⊎◌, inl, inr, arith, ap, sym, ◌∙◌, refl, subst, ⊎_elim}
+use Rattle.std.specs.Prelude.{ℤ, pos, neg_ℤ, ◌≢◌, ◌+ℤ◌, ◌*ℤ◌, ◌<ℤ◌, unsigned_abs}
 use Rattle.std.proofs.lemmas.Int.{ints}
 use Rattle.algebra.proofs.Products.{mults, int_mul_assoc, int_mul_comm, int_mul_neg}
 use Rattle.algebra.proofs.Order.{int_eq_of_mul_left, int_eq_of_mul_right, int_mul_pos, int_lt_of_mul_right}
 use Rattle.numbers.specs.Divisors.{Divides, IsGreatestCommonDivisor}
-use Rattle.numbers.proofs.DivisorsLemmas.{divides_trans, one_divides}
-use Rattle.tableau.specs.Tableaux.{Tableau, IsRow, IsColumn, IsNonbasic, basic_entry, standing, rest}
-use Rattle.tableau.specs.Ends.{Clears, ClearsTo, IsLeastDenominator, IsPoint, IsOptimal}
+use Rattle.numbers.proofs.DivisorsLemmas.{one_divides}
+use Rattle.tableau.specs.Tableaux.{Tableau, IsRow, IsNonbasic, basic_entry, standing, rest}
+use Rattle.tableau.specs.Ends.{Clears, ClearsTo, IsLeastDenominator, IsPointOfTableau, IsOptimal}
 use Rattle.tableau.specs.Laws.{HasLaws}
-use Rattle.tableau.specs.Operations.{IsOutOfRange, IsJoinValue}
-use Rattle.tableau.specs.declared.op.Op.{Op}
+use Rattle.tableau.specs.Operations.{IsOutOfRange}
 use Rattle.tableau.specs.declared.op.Op.TheVariants.{Join}
 use Rattle.tableau.proofs.EndsLemmas.{basic_or_not}
 use Rattle.sparse_rows.proofs.Common.{gcd_scaled}
@@ -171,7 +170,7 @@ module _ (t : Tableau) (laws : HasLaws t) (den : ℤ) (clears : ClearsTo t t.giv
       closes a b c e = let m = int_mul_neg a b in omega (arith, ints)
   at_basic i row (inr none) = absurd (none i row.0 row.1 refl)
 
-  pub point_over : IsPoint t den coordinates
+  pub point_over : IsPointOfTableau t den coordinates
   point_over = record {
     nonbasic = λ j column free. at_nonbasic j (basic_or_not t.basis j t.given.rows) free;
     basic = λ i row. at_basic i row (basic_or_not t.basis (t.basis i) t.given.rows);
@@ -179,7 +178,7 @@ module _ (t : Tableau) (laws : HasLaws t) (den : ℤ) (clears : ClearsTo t t.giv
 
 -- a coordinate out of range
 pub wide_coordinate : (t : Tableau) (greatest : ℕ) (den : ℤ) (j : ℕ) → HasLaws t → IsOptimal t → IsLeastDenominator t t.given.rows den → 1 ≤ j → j ≤ t.given.columns
-    → ((x : ℕ → ℤ) → IsPoint t den x → greatest < unsigned_abs (x j)) → IsOutOfRange greatest t (Join t.given.rows)
+    → ((x : ℕ → ℤ) → IsPointOfTableau t den x → greatest < unsigned_abs (x j)) → IsOutOfRange greatest t (Join t.given.rows)
 wide_coordinate t greatest den j laws optimal least first last wide =
     let x = coordinates t laws den least.clears in
     let p = point_over t laws den least.clears in (
@@ -227,7 +226,7 @@ pub clears_at : (t : Tableau) (i : ℕ) (den e r : ℤ) → e ≡ basic_entry t 
 clears_at t i den e r p q h = subst (λ (x : ℤ). Divides x (den *ℤ r)) (sym p) (subst (λ (x : ℤ). Divides (basic_entry t i) (den *ℤ x)) (sym q) h)
 
 -- the coordinate of a basic column is the number that makes its row 0
-pub basic_is : (t : Tableau) (i : ℕ) (den e r z : ℤ) (x : ℕ → ℤ) → HasLaws t → IsRow t i → e ≡ basic_entry t i → r ≡ rest t i → e *ℤ z +ℤ den *ℤ r ≡ pos 0 → IsPoint t den x → x (t.basis i) ≡ z
+pub basic_is : (t : Tableau) (i : ℕ) (den e r z : ℤ) (x : ℕ → ℤ) → HasLaws t → IsRow t i → e ≡ basic_entry t i → r ≡ rest t i → e *ℤ z +ℤ den *ℤ r ≡ pos 0 → IsPointOfTableau t den x → x (t.basis i) ≡ z
 basic_is t i den e r z x laws row p q zero_sum point =
     let own = point.basic i row in
     let left = ap (λ y. y *ℤ z) p in

@@ -1,6 +1,6 @@
 -- What a tableau's numbers show of the program: the optimal point, the ray of an empty row, and its scale and multipliers.
-use Rattle.std.proofs.Common.{◌≡◌, ℕ, ◌+◌, ◌≤◌, ◌<◌, List, [], ◌∷◌, length, get_or, false, Bool, true, arith, ap, sym, ◌∙◌, refl, subst, inl, inr}
-use Rattle.std.specs.Prelude.{ℤ, pos, negsuc, neg_ℤ, ◌*ℤ◌, ◌≤ℤ◌, ◌<ℤ◌, ◌≢◌, ◌==◌, int_lt, nat_le, if◌then◌else◌, unsigned_abs}
+use Rattle.std.proofs.Common.{◌≡◌, ℕ, ◌+◌, ◌≤◌, ◌<◌, List, [], length, get_or, false, Bool, true, arith, ap, sym, ◌∙◌, refl, subst, inl, inr}
+use Rattle.std.specs.Prelude.{ℤ, pos, negsuc, neg_ℤ, ◌*ℤ◌, ◌≤ℤ◌, ◌<ℤ◌, ◌==◌, int_lt, nat_le, if◌then◌else◌, unsigned_abs}
 use Rattle.std.proofs.lemmas.Int.{ints}
 use Rattle.algebra.specs.Lists.{list_to}
 use Rattle.algebra.specs.Numbered.{numbered}
@@ -13,14 +13,12 @@ use Rattle.sparse_rows.specs.Lines.{entry_of}
 use Rattle.programs.specs.Programs.{Program, column_count, row_count}
 use Rattle.programs.specs.Points.{cost_of_point}
 use Rattle.safe_bounds.specs.Values.{value_of, HasRightSigns}
-use Rattle.tableau.specs.Programs.{Given, last_column, cost_value, HasSlacks, IsOrdered}
+use Rattle.tableau.specs.Programs.{Given}
 use Rattle.tableau.specs.Tableaux.{Tableau, IsStart, basic_entry}
-use Rattle.tableau.specs.Trails.{IsAfter}
-use Rattle.tableau.specs.Ends.{IsOptimal, IsEmptyRow, IsLeastDenominator, IsPoint, turned_by, ray, multiplier, dual_value}
-use Rattle.tableau.specs.OwnNumbers.{scale_of, multipliers_of, ray_of, IsPointOf}
+use Rattle.tableau.specs.Ends.{IsOptimal, IsEmptyRow, IsLeastDenominator, IsPointOfTableau, turned_by, ray, multiplier}
+use Rattle.tableau.specs.OwnNumbers.{scale_of, multipliers_of, ray_of}
 use Rattle.tableau.specs.Exchanges.{IsGood}
 use Rattle.tableau.specs.Operations.{IsOutOfRange, IsWideNumber}
-use Rattle.tableau.specs.Laws.{HasLaws, MakesRowsZero}
 use Rattle.tableau.specs.declared.bound.Bound.{Bound}
 use Rattle.tableau.specs.declared.exchange.Exchange.{Exchange}
 use Rattle.tableau.specs.declared.op.Op.{Op}
@@ -29,7 +27,7 @@ use Rattle.tableau.proofs.EndsLemmas.{ray_dead, ray_signs, point_zeros, point_co
 use Rattle.tableau.proofs.TrailsLemmas.{after_none}
 use Rattle.simplex.specs.Givens.{given_of}
 use Rattle.simplex.specs.States.{State, tableau_of, KeepsLaws}
-use Rattle.simplex.specs.Ends.{IsReached, AreOwnNumbers, IsOptimum, IsDead, IsSpent, IsPastRange, IsWide, AreWithin, HasNumbersWithin}
+use Rattle.simplex.specs.Ends.{IsReached, AreOwnNumbers, IsOptimum, IsDead, IsSpent, IsWide, AreWithin, HasNumbersWithin}
 use Rattle.simplex.specs.declared.lp_end.LpEnd.{LpEnd}
 use Rattle.simplex.specs.declared.lp_end.LpEnd.TheVariants.{Best, Empty, Pivots, Wide}
 use Rattle.simplex.specs.inside.OwnOptima.{IsOwnOptimum}
@@ -71,7 +69,7 @@ module _ {A : Type 0} (f : A → ℤ) (s : State A) (h : KeepsLaws f s) where
   -- ---- the optimal point
 
   pub own_optimum : (den : ℤ) (point : List ℤ) → IsOptimal (tableau_of f s) → IsLeastDenominator (tableau_of f s) (row_count s.program) den → length point ≡ column_count s.program
-      → ((x : ℕ → ℤ) → IsPoint (tableau_of f s) den x → (j : ℕ) → 1 ≤ j → j ≤ column_count s.program → numbered (pos 0) point j ≡ x j)
+      → ((x : ℕ → ℤ) → IsPointOfTableau (tableau_of f s) den x → (j : ℕ) → 1 ≤ j → j ≤ column_count s.program → numbered (pos 0) point j ≡ x j)
       → IsOwnOptimum s.program (tableau_of f s) den point
   own_optimum den point optimal least count each =
       let t = tableau_of f s in

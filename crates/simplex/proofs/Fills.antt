@@ -1,12 +1,11 @@
 -- Numbers of a program put into memory one by one.
-use Rattle.std.proofs.Common.{◌≡◌, ℕ, zero, suc, ◌+◌, ◌-◌, ◌≤◌, ◌<◌, ◌⊎◌, inl, inr, List, [], ◌∷◌, ◌++◌, length, get_or, Bool, false, arith, ap, sym, ◌∙◌, refl, subst, ⊎_elim, length-append}
-use Rattle.std.specs.Prelude.{ℤ, pos, negsuc, ◌≢◌, ◌==◌, ◌+ℤ◌, ◌*ℤ◌, if◌then◌else◌}
-use Rattle.std.specs.List.{All}
+use Rattle.std.proofs.Common.{◌≡◌, ℕ, zero, suc, ◌+◌, ◌-◌, ◌≤◌, ◌<◌, ◌⊎◌, List, [], ◌∷◌, ◌++◌, length, get_or, Bool, false, arith, ap, sym, ◌∙◌, refl, subst, ⊎_elim, length-append}
+use Rattle.std.specs.Prelude.{ℤ, pos, negsuc, ◌≢◌, ◌*ℤ◌}
 use Rattle.std.proofs.lemmas.Int.{ints}
-use Rattle.algebra.specs.Numbered.{numbered, IsNumber}
-use Rattle.algebra.proofs.NumberedLemmas.{numbered_in, numbered_past}
+use Rattle.algebra.specs.Numbered.{IsNumber}
+use Rattle.algebra.proofs.NumberedLemmas.{numbered_in}
 use Rattle.term_store.specs.declared.term.Term.{Term}
-use Rattle.programs.specs.Programs.{Program, ProgramRow, column_count, row_count, cost_at, row_at, coefficient, entry, empty_row}
+use Rattle.programs.specs.Programs.{Program, column_count, row_count, cost_at, row_at, coefficient, entry, empty_row}
 use Rattle.programs.specs.Limits.{Rises, IsWithinLimits}
 use Rattle.programs.proofs.EntriesLemmas.{entry_here, entry_elsewhere}
 use Rattle.sparse_rows.specs.Lines.{entry_of, IsLine, IsFilled}

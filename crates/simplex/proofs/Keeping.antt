@@ -7,12 +7,10 @@ use Rattle.term_store.specs.declared.term.Term.{Term}
 use Rattle.programs.specs.Programs.{Program, row_count, column_count}
 use Rattle.tableau.specs.Programs.{last_column, HasSlacks}
 use Rattle.tableau.specs.Signs.{turned}
-use Rattle.tableau.specs.Tableaux.{Tableau}
 use Rattle.tableau.specs.Exchanges.{IsGood, IsResult, kept_product, taken_product, reduced}
-use Rattle.tableau.specs.Operations.{IsOutOfRange, IsCellValue}
-use Rattle.tableau.specs.Laws.{HasLaws, MakesRowsZero}
+use Rattle.tableau.specs.Operations.{IsOutOfRange}
+use Rattle.tableau.specs.Laws.{MakesRowsZero}
 use Rattle.tableau.specs.declared.exchange.Exchange.{Exchange}
-use Rattle.tableau.specs.declared.op.Op.{Op}
 use Rattle.tableau.specs.declared.op.Op.TheVariants.{Cell}
 use Rattle.tableau.proofs.Points.{zero_where_slacks}
 use Rattle.sparse_rows.specs.Lines.{entry_of, IsLine}

@@ -1,6 +1,5 @@
 -- What follows from what is known of an outcome.
-use Rattle.std.proofs.Common.{◌≡◌}
-use Rattle.std.specs.Prelude.{Result, Ok, Err, IfOk, IfErr, Option, Some, None, IfSome, IfNone}
+use Rattle.std.specs.Prelude.{Result, Ok, Err, IfOk, IfErr}
 
 pub ok_weaker : {A E : Type 0} (P Q : A → Type 0) (r : Result A E) → ((x : A) → P x → Q x) → IfOk r P → IfOk r Q
 ok_weaker P Q (Ok x) h p = h x p

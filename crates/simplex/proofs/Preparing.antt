@@ -1,5 +1,5 @@
 -- The rows while they are prepared one by one.
-use Rattle.std.proofs.Common.{◌≡◌, ℕ, ◌+◌, ◌≤◌, ◌<◌, ◌⊎◌, List, [], length, get_or, set, Bool, false, arith, ap, sym, ◌∙◌, refl, subst, ⊎_elim, get_or-set_same, get_or-set_other}
+use Rattle.std.proofs.Common.{◌≡◌, ℕ, ◌+◌, ◌<◌, ◌⊎◌, List, [], length, get_or, set, Bool, false, arith, sym, ◌∙◌, refl, subst, ⊎_elim, get_or-set_same, get_or-set_other}
 use Rattle.std.specs.Prelude.{ℤ, ◌≢◌}
 use Rattle.term_store.specs.declared.term.Term.{Term}
 use Rattle.simplex.specs.inside.Rows.{AreSameBut, IsPrepared}

@@ -1,15 +1,15 @@
 -- The least ratio of a row, found term by term.
-use Rattle.std.proofs.Common.{◌≡◌, ℕ, zero, suc, ◌+◌, ◌-◌, ◌*◌, ◌≤◌, ◌<◌, ◌⊎◌, inl, inr, List, [], ◌∷◌, length, get_or, drop, Bool, true, false, cond, arith, ap, sym, ◌∙◌, refl, subst, ⊎_elim}
-use Rattle.std.specs.Prelude.{ℤ, pos, ◌≢◌, ◌<ℤ◌, IsTrue, ◌↔◌, unsigned_abs}
+use Rattle.std.proofs.Common.{◌≡◌, ℕ, ◌+◌, ◌-◌, ◌*◌, ◌≤◌, ◌<◌, ◌⊎◌, inl, inr, List, length, get_or, Bool, true, false, arith, ap, sym, ◌∙◌, refl, subst, ⊎_elim}
+use Rattle.std.specs.Prelude.{ℤ, pos, ◌≢◌, unsigned_abs}
 use Rattle.std.proofs.lemmas.Int.{ints}
-use Rattle.std.proofs.Math.Nat.{mul-le-mul_left, mul-le-mul_right}
+use Rattle.std.proofs.Math.Nat.{mul-le-mul_right}
 use Rattle.term_store.specs.declared.term.Term.{Term}
 use Rattle.tableau.specs.Signs.{IsSameSign, IsOppositeSign}
 use Rattle.tableau.specs.Exchanges.{IsToward}
 use Rattle.tableau.specs.declared.bound.Bound.{Bound}
 use Rattle.tableau.specs.declared.bound.Bound.TheVariants.{Lower, Upper}
 use Rattle.sparse_rows.specs.Lines.{entry_of, IsLine}
-use Rattle.sparse_rows.proofs.LinesLemmas.{IsRest, rest_none, rest_taken, next_from, next_end, next_entry, line_from, none_left, entry_past, entry_below}
+use Rattle.sparse_rows.proofs.LinesLemmas.{IsRest, rest_none, rest_taken, next_from, next_end, next_entry, line_from, none_left, entry_below}
 use Rattle.simplex.specs.inside.Choices.{MayEnter, IsAtMost, IsChosen, IsWideRatio}
 
 same_or_not : (i k : ℕ) → (i ≡ k) ⊎ (i ≢ k)

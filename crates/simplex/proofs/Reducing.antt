@@ -1,6 +1,6 @@
 -- A row reduced by factors without a common divisor, and then divided, is the reduced row divided.
-use Rattle.std.proofs.Common.{◌≡◌, ℕ, ◌+◌, ◌*◌, ◌≤◌, ◌<◌, ◌⊎◌, inl, inr, List, [], length, get_or, arith, ap, sym, ◌∙◌, refl, subst, ⊎_elim, Bool, true, false, set, get_or-set_other}
-use Rattle.std.specs.Prelude.{ℤ, pos, ◌≢◌, ◌+ℤ◌, ◌-ℤ◌, ◌*ℤ◌, ◌<ℤ◌, ◌≤ℤ◌, unsigned_abs}
+use Rattle.std.proofs.Common.{◌≡◌, ℕ, ◌+◌, ◌*◌, ◌≤◌, ◌<◌, ◌⊎◌, inl, inr, List, [], length, get_or, arith, ap, sym, ◌∙◌, subst, ⊎_elim, Bool, true, false, set, get_or-set_other}
+use Rattle.std.specs.Prelude.{ℤ, pos, ◌≢◌, ◌-ℤ◌, ◌*ℤ◌, ◌<ℤ◌, unsigned_abs}
 use Rattle.std.proofs.lemmas.Int.{ints, unsigned_abs-mul}
 use Rattle.std.proofs.Math.Nat.{mul-le-mul_right}
 use Rattle.std.proofs.Math.ListN.{length-set}
@@ -10,7 +10,7 @@ use Rattle.numbers.specs.Divisors.{Divides}
 use Rattle.term_store.specs.declared.term.Term.{Term}
 use Rattle.tableau.specs.Signs.{turned}
 use Rattle.tableau.specs.Exchanges.{IsDivided}
-use Rattle.sparse_rows.specs.Lines.{entry_of, IsLine, IsFilled}
+use Rattle.sparse_rows.specs.Lines.{entry_of, IsLine}
 use Rattle.sparse_rows.specs.Cells.{cell, IsWideCell, IsCommonDivisor, AreFactors}
 use Rattle.sparse_rows.proofs.LinesLemmas.{entry_past}
 use Rattle.simplex.specs.inside.Rows.{kept_by, taken_by, reduced_by, IsWideBy, AreSameBut, IsPrepared, IsWideRow, LeavesEntries}

@@ -1,27 +1,24 @@
 -- The choice in terms of lists is the choice in the tableau.
-use Rattle.std.proofs.Common.{◌≡◌, ℕ, zero, suc, ◌+◌, ◌-◌, ◌*◌, ◌≤◌, ◌<◌, ◌⊎◌, inl, inr, List, [], ◌∷◌, length, get_or, Bool, true, false, cond, arith, ap, sym, ◌∙◌, refl, subst, ⊎_elim}
+use Rattle.std.proofs.Common.{◌≡◌, ℕ, ◌+◌, ◌-◌, ◌*◌, ◌≤◌, ◌<◌, ◌⊎◌, inl, inr, List, [], ◌∷◌, length, get_or, false, cond, arith, ap, sym, ◌∙◌, refl, subst, ⊎_elim}
 use Rattle.std.specs.Prelude.{ℤ, pos, ◌≢◌, ◌==◌, ◌+ℤ◌, ◌*ℤ◌, unsigned_abs, if◌then◌else◌}
 use Rattle.std.proofs.lemmas.Int.{ints}
 use Rattle.algebra.specs.Sums.{sum_to}
 use Rattle.algebra.proofs.SumsLemmas.{sum_to_ext}
 use Rattle.term_store.specs.declared.term.Term.{Term}
-use Rattle.programs.specs.Programs.{Program, row_count, column_count}
-use Rattle.tableau.specs.Programs.{Given, last_column}
-use Rattle.tableau.specs.Signs.{IsSameSign, IsOppositeSign}
-use Rattle.tableau.specs.Tableaux.{Tableau, IsRow, IsColumn, IsNonbasic, basic_entry, standing, summand, rest, row_at}
-use Rattle.tableau.specs.Exchanges.{IsOutside, IsEligible, IsGoodAt, IsRatioAtMost, IsFirst}
-use Rattle.tableau.specs.Ends.{IsOptimal, IsEmptyRow}
-use Rattle.tableau.specs.Operations.{IsOutOfRange, IsSumValue, IsRatioValue}
+use Rattle.tableau.specs.Programs.{last_column}
+use Rattle.tableau.specs.Tableaux.{IsRow, IsColumn, standing, summand, rest, row_at}
+use Rattle.tableau.specs.Exchanges.{IsOutside, IsEligible, IsGoodAt}
+use Rattle.tableau.specs.Ends.{IsEmptyRow}
+use Rattle.tableau.specs.Operations.{IsOutOfRange}
 use Rattle.tableau.specs.declared.bound.Bound.{Bound}
 use Rattle.tableau.specs.declared.bound.Bound.TheVariants.{Lower, Upper}
-use Rattle.tableau.specs.declared.op.Op.{Op}
 use Rattle.tableau.specs.declared.op.Op.TheVariants.{Value, Ratio}
 use Rattle.sparse_rows.specs.Lines.{entry_of, IsLine}
 use Rattle.sparse_rows.specs.Sums.{meaning_at, standing_at, share}
 use Rattle.sparse_rows.proofs.LinesLemmas.{entry_past}
 use Rattle.simplex.specs.Givens.{given_of}
-use Rattle.simplex.specs.States.{State, tableau_of, IsShaped, KeepsLaws}
-use Rattle.simplex.specs.inside.Choices.{IsBroken, MayEnter, IsChosen, IsWideRatio, IsWideSum, IsAtMost}
+use Rattle.simplex.specs.States.{State, tableau_of, KeepsLaws}
+use Rattle.simplex.specs.inside.Choices.{IsBroken, MayEnter, IsChosen, IsWideRatio, IsWideSum}
 use Rattle.simplex.proofs.Ratios.{toward_some}
 use Rattle.simplex.proofs.Breaks.{same_sign_at, opposite_sign_at}
 

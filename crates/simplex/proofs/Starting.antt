@@ -1,27 +1,25 @@
 -- The tableau made of a program's numbers is its start, and a reached one.
-use Rattle.std.proofs.Common.{◌≡◌, ℕ, zero, suc, ◌+◌, ◌-◌, ◌≤◌, ◌<◌, ◌⊎◌, inl, inr, List, [], ◌∷◌, ◌++◌, length, get_or, take, replicate, Bool, true, false, arith, ap, sym, ◌∙◌, refl, subst, ⊎_elim}
-use Rattle.std.specs.Prelude.{ℤ, pos, negsuc, ◌≢◌, ◌==◌, ◌≤ℤ◌, ◌<ℤ◌, int_lt, nat_le, if◌then◌else◌, unsigned_abs}
-use Rattle.std.specs.List.{All}
+use Rattle.std.proofs.Common.{◌≡◌, ℕ, zero, suc, ◌+◌, ◌-◌, ◌≤◌, ◌<◌, ◌⊎◌, inl, inr, List, [], ◌∷◌, length, get_or, take, replicate, Bool, true, false, arith, ap, sym, ◌∙◌, refl, subst, ⊎_elim}
+use Rattle.std.specs.Prelude.{ℤ, pos, negsuc, ◌≢◌, ◌≤ℤ◌, int_lt, unsigned_abs}
 use Rattle.std.proofs.lemmas.Int.{ints}
 use Rattle.std.proofs.lemmas.List.{get_or-take, length-take}
-use Rattle.algebra.specs.Numbered.{numbered, IsNumber}
+use Rattle.algebra.specs.Numbered.{IsNumber}
 use Rattle.algebra.proofs.NumberedLemmas.{numbered_in}
 use Rattle.term_store.specs.declared.term.Term.{Term}
-use Rattle.programs.specs.Programs.{Program, ProgramRow, column_count, row_count, bounds_at, cost_at, row_at, coefficient, empty_row}
-use Rattle.programs.specs.Limits.{Rises, IsWithinLimits}
-use Rattle.tableau.specs.Programs.{Given, last_column, IsOrdered, HasSlacks}
-use Rattle.tableau.specs.Tableaux.{Tableau, IsStart}
-use Rattle.tableau.specs.Laws.{MakesRowsZero}
-use Rattle.tableau.specs.Operations.{IsGivenNumber, IsWideNumber}
+use Rattle.programs.specs.Programs.{Program, column_count, row_count, bounds_at, cost_at, row_at, coefficient}
+use Rattle.programs.specs.Limits.{IsWithinLimits}
+use Rattle.tableau.specs.Programs.{Given, IsOrdered}
+use Rattle.tableau.specs.Tableaux.{IsStart}
+use Rattle.tableau.specs.Operations.{IsWideNumber}
 use Rattle.tableau.proofs.Starts.{laws_of_start}
 use Rattle.tableau.proofs.Points.{slacks_at_start}
-use Rattle.sparse_rows.specs.Lines.{entry_of, IsLine, IsFilled}
+use Rattle.sparse_rows.specs.Lines.{entry_of, IsLine}
 use Rattle.sparse_rows.specs.Sums.{meaning_at}
 use Rattle.sparse_rows.proofs.LinesLemmas.{entry_below, entry_past, line_longer}
 use Rattle.sparse_rows.proofs.Common.{entry_has}
-use Rattle.simplex.specs.Givens.{given_of, low_at, high_at, has_high_at, is_equation}
+use Rattle.simplex.specs.Givens.{given_of, low_at, high_at, has_high_at}
 use Rattle.simplex.specs.States.{State, tableau_of, IsShaped, KeepsLaws}
-use Rattle.simplex.specs.Starts.{cost_entry, start_entry, IsInRange}
+use Rattle.simplex.specs.Starts.{start_entry, IsInRange}
 use Rattle.simplex.specs.inside.Filled.{AreBounds, AreLines}
 use Rattle.simplex.specs.inside.Kept.{IsKept}
 use Rattle.simplex.proofs.Fills.{cost_entry_at, coefficient_entry, row_rises, rises_line}

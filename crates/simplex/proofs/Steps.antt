@@ -1,27 +1,25 @@
 -- What an exchange in memory leaves is the result of the exchange, and a reached tableau again.
-use Rattle.std.proofs.Common.{◌≡◌, ℕ, zero, suc, ◌+◌, ◌-◌, ◌*◌, ◌≤◌, ◌<◌, ◌⊎◌, inl, inr, List, [], length, get_or, set, Bool, true, false, cond, arith, ap, sym, ◌∙◌, refl, subst, ⊎_elim, get_or-set_same, get_or-set_other}
-use Rattle.std.specs.Prelude.{ℤ, pos, ◌≢◌, ◌↔◌, ◌+ℤ◌, ◌-ℤ◌, ◌*ℤ◌, ◌<ℤ◌, ◌≤ℤ◌, unsigned_abs}
+use Rattle.std.proofs.Common.{◌≡◌, ℕ, zero, suc, ◌+◌, ◌-◌, ◌*◌, ◌≤◌, ◌<◌, ◌⊎◌, inl, inr, List, [], length, get_or, set, Bool, true, false, arith, ap, sym, ◌∙◌, refl, subst, ⊎_elim, get_or-set_same, get_or-set_other}
+use Rattle.std.specs.Prelude.{ℤ, pos, ◌≢◌, ◌+ℤ◌, ◌-ℤ◌, ◌*ℤ◌, ◌≤ℤ◌, unsigned_abs}
 use Rattle.std.proofs.lemmas.Int.{ints}
 use Rattle.std.proofs.Math.ListN.{length-set}
 use Rattle.algebra.proofs.Order.{int_eq_of_mul_left, int_mul_le_left, int_mul_le_left_neg}
 use Rattle.term_store.specs.declared.term.Term.{Term}
-use Rattle.programs.specs.Programs.{Program, row_count, column_count}
-use Rattle.tableau.specs.Programs.{Given, last_column, IsOrdered, HasSlacks}
+use Rattle.programs.specs.Programs.{row_count, column_count}
+use Rattle.tableau.specs.Programs.{Given, last_column, IsOrdered}
 use Rattle.tableau.specs.Signs.{turned, IsSameSign, IsOppositeSign}
-use Rattle.tableau.specs.Tableaux.{Tableau, IsRow, IsColumn, basic_entry, rest}
-use Rattle.tableau.specs.Exchanges.{IsGoodAt, IsGood, IsResultAt, IsResult, IsRowResult, IsStandingResult, IsOutside, IsToward, reduced}
-use Rattle.tableau.specs.Laws.{HasLaws, MakesRowsZero}
+use Rattle.tableau.specs.Tableaux.{Tableau, IsRow, basic_entry, rest}
+use Rattle.tableau.specs.Exchanges.{IsGoodAt, IsResultAt, IsOutside, IsToward, reduced}
+use Rattle.tableau.specs.Laws.{HasLaws}
 use Rattle.tableau.specs.declared.bound.Bound.{Bound}
 use Rattle.tableau.specs.declared.bound.Bound.TheVariants.{Lower, Upper}
-use Rattle.tableau.specs.declared.exchange.Exchange.{Exchange}
 use Rattle.tableau.proofs.Results.{laws_of_result}
-use Rattle.tableau.proofs.TrailsLemmas.{laws_after, points_after}
+use Rattle.tableau.proofs.TrailsLemmas.{points_after}
 use Rattle.tableau.proofs.SignsLemmas.{toward_lowers, lowers_some}
-use Rattle.sparse_rows.specs.Lines.{entry_of, IsLine}
+use Rattle.sparse_rows.specs.Lines.{entry_of}
 use Rattle.simplex.specs.Givens.{given_of}
-use Rattle.simplex.specs.States.{State, tableau_of, IsShaped, KeepsLaws}
-use Rattle.simplex.specs.inside.Rows.{IsChangedRow, IsRestanding, LeavesEntries, Changes, reduced_at}
-use Rattle.simplex.proofs.Preparing.{same_or_not}
+use Rattle.simplex.specs.States.{State, tableau_of, KeepsLaws}
+use Rattle.simplex.specs.inside.Rows.{IsChangedRow, IsRestanding}
 
 nat_le_or_lt : (a c : ℕ) → (a ≤ c) ⊎ (c < a)
 nat_le_or_lt a c = grind arith

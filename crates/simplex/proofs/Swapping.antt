@@ -1,6 +1,6 @@
 -- Rows exchanged with spare ones, and columns put at their bounds.
-use Rattle.std.proofs.Common.{◌≡◌, ℕ, ◌+◌, ◌≤◌, ◌<◌, ◌⊎◌, inl, inr, List, [], length, get_or, set, drop, Bool, true, false, cond, arith, ap, sym, ◌∙◌, refl, subst, ⊎_elim, get_or-set_same, get_or-set_other}
-use Rattle.std.specs.Prelude.{ℤ, pos, ◌≢◌, ◌<ℤ◌, ◌≤ℤ◌, IsTrue, ◌↔◌}
+use Rattle.std.proofs.Common.{◌≡◌, ℕ, ◌+◌, ◌≤◌, ◌<◌, ◌⊎◌, inl, inr, List, [], length, get_or, set, Bool, true, false, cond, arith, ap, sym, ◌∙◌, refl, subst, ⊎_elim, get_or-set_same, get_or-set_other}
+use Rattle.std.specs.Prelude.{ℤ, pos, ◌≢◌, ◌<ℤ◌, IsTrue, ◌↔◌}
 use Rattle.std.specs.List.{swap}
 use Rattle.std.proofs.lemmas.Int.{ints}
 use Rattle.std.proofs.lemmas.List.Edits.{swap_is, length-swap}
@@ -10,7 +10,7 @@ use Rattle.tableau.specs.Exchanges.{IsToward, IsDivided}
 use Rattle.tableau.specs.declared.bound.Bound.{Bound}
 use Rattle.tableau.specs.declared.bound.Bound.TheVariants.{Lower, Upper}
 use Rattle.sparse_rows.specs.Lines.{entry_of, IsLine}
-use Rattle.sparse_rows.proofs.LinesLemmas.{IsRest, rest_all, rest_none, rest_taken, next_from, next_end, next_entry, next_some, line_from, none_left}
+use Rattle.sparse_rows.proofs.LinesLemmas.{IsRest, rest_all, rest_none, rest_taken, next_from, next_entry, next_some, line_from, none_left}
 use Rattle.simplex.specs.inside.Rows.{IsRestood, IsStood, IsPrepared, IsChangedRow, reduced_at}
 use Rattle.simplex.proofs.Preparing.{same_or_not}
 

@@ -1,6 +1,6 @@
 -- A program as what a tableau is started with: the slack of a row has the row's right side as its lower bound, and as its
 -- upper one too where the row is an equation.
-use Rattle.std.specs.Prelude.{ℕ, ◌+◌, ◌-◌, Bool, true, false, nat_le, if◌then◌else◌, ℤ}
+use Rattle.std.specs.Prelude.{ℕ, ◌-◌, Bool, true, false, nat_le, if◌then◌else◌, ℤ}
 use Rattle.term_store.specs.declared.side.Side.{Side}
 use Rattle.term_store.specs.declared.side.Side.TheVariants.{Equal, AtLeast}
 use Rattle.programs.specs.Programs.{Program, column_count, row_count, bounds_at, cost_at, row_at, coefficient}

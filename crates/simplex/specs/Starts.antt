@@ -1,11 +1,8 @@
 -- The rows with which a tableau starts, and when a program's numbers are in range.
-use Rattle.std.specs.Prelude.{◌≡◌, ◌≢◌, ℕ, ◌+◌, ◌≤◌, ◌<◌, ◌==◌, if◌then◌else◌, List, ℤ, pos, negsuc, unsigned_abs}
-use Rattle.term_store.specs.declared.term.Term.{Term}
-use Rattle.programs.specs.Programs.{Program, column_count, row_count, cost_at, row_at, coefficient}
-use Rattle.tableau.specs.Programs.{Given, last_column}
+use Rattle.std.specs.Prelude.{ℕ, ◌+◌, ◌≤◌, ◌==◌, if◌then◌else◌, ℤ, pos, negsuc, unsigned_abs}
+use Rattle.programs.specs.Programs.{Program, column_count, cost_at, row_at, coefficient}
+use Rattle.tableau.specs.Programs.{Given}
 use Rattle.tableau.specs.Operations.{IsGivenNumber}
-use Rattle.sparse_rows.specs.Lines.{entry_of, IsLine, IsFilled}
-use Rattle.simplex.specs.Givens.{given_of}
 
 -- every coefficient, cost and bound is of a magnitude up to the greatest
 abbrev pub IsInRange : ℕ → Given → Type 0

@@ -1,8 +1,8 @@
 -- What contracts see of a tableau in memory, and the tableau that it is.
-use Rattle.std.specs.Prelude.{◌≡◌, ℕ, ◌+◌, ◌≤◌, Bool, true, false, List, [], length, slice_index_or, ℤ}
+use Rattle.std.specs.Prelude.{◌≡◌, ℕ, ◌+◌, ◌≤◌, Bool, false, List, [], length, slice_index_or, ℤ}
 use Rattle.term_store.specs.declared.term.Term.{Term}
 use Rattle.programs.specs.Programs.{Program, row_count}
-use Rattle.tableau.specs.Programs.{Given, last_column, IsOrdered, HasSlacks}
+use Rattle.tableau.specs.Programs.{last_column, IsOrdered, HasSlacks}
 use Rattle.tableau.specs.Tableaux.{Tableau}
 use Rattle.tableau.specs.Laws.{HasLaws, MakesRowsZero}
 use Rattle.sparse_rows.specs.Lines.{entry_of, IsLine}

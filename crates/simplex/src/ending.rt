@@ -3,7 +3,7 @@ ghost use Rattle.std.specs.Prelude.{◌≡◌, ◌≢◌, ◌+◌, ◌<◌, ◌�
 ghost use Rattle.algebra.specs.Numbered.{numbered};
 ghost use Rattle.programs.specs.Programs.{column_count, row_count};
 ghost use Rattle.tableau.specs.Tableaux.{IsNonbasic, IsRow, basic_entry, rest, standing};
-ghost use Rattle.tableau.specs.Ends.{IsLeastDenominator, IsOptimal, IsPoint};
+ghost use Rattle.tableau.specs.Ends.{IsLeastDenominator, IsOptimal, IsPointOfTableau};
 ghost use Rattle.tableau.specs.Operations.{IsOutOfRange};
 ghost use Rattle.simplex.specs.States.{tableau_of};
 
@@ -73,7 +73,7 @@ impl<'a, W: Whole> Tableau<'a, W> {
         requires least { IsLeastDenominator (tableau_of W.meaning self.now) (row_count self.now.program) (⟦<W128 as Whole>⟧.meaning den) }
         requires first { 1 ≤ column }
         requires last { column ≤ column_count self.now.program }
-        ensures value { IfOk result (λ z. (x : ℕ → ℤ) → IsPoint (tableau_of W.meaning self.now) (⟦<W128 as Whole>⟧.meaning den) x
+        ensures value { IfOk result (λ z. (x : ℕ → ℤ) → IsPointOfTableau (tableau_of W.meaning self.now) (⟦<W128 as Whole>⟧.meaning den) x
             → x column ≡ ⟦<W128 as Whole>⟧.meaning z) }
         ensures wide { IfErr result (λ op. IsOutOfRange W.greatest (tableau_of W.meaning self.now) op) }
     {
@@ -90,7 +90,7 @@ impl<'a, W: Whole> Tableau<'a, W> {
         requires least { IsLeastDenominator (tableau_of W.meaning self.now) (row_count self.now.program) (⟦<W128 as Whole>⟧.meaning den) }
         requires row { IsRow (tableau_of W.meaning self.now) row }
         requires structural { slice_index_or self.now.basis row 0 ≤ column_count self.now.program }
-        ensures value { IfOk result (λ z. (x : ℕ → ℤ) → IsPoint (tableau_of W.meaning self.now) (⟦<W128 as Whole>⟧.meaning den) x
+        ensures value { IfOk result (λ z. (x : ℕ → ℤ) → IsPointOfTableau (tableau_of W.meaning self.now) (⟦<W128 as Whole>⟧.meaning den) x
             → x (slice_index_or self.now.basis row 0) ≡ ⟦<W128 as Whole>⟧.meaning z) }
         ensures wide { IfErr result (λ op. IsOutOfRange W.greatest (tableau_of W.meaning self.now) op) }
     {
@@ -113,7 +113,7 @@ impl<'a, W: Whole> Tableau<'a, W> {
         requires first { 1 ≤ column }
         requires last { column ≤ column_count self.now.program }
         requires nonbasic { IsNonbasic (tableau_of W.meaning self.now) column }
-        ensures value { IfOk result (λ z. (x : ℕ → ℤ) → IsPoint (tableau_of W.meaning self.now) (⟦<W128 as Whole>⟧.meaning den) x
+        ensures value { IfOk result (λ z. (x : ℕ → ℤ) → IsPointOfTableau (tableau_of W.meaning self.now) (⟦<W128 as Whole>⟧.meaning den) x
             → x column ≡ ⟦<W128 as Whole>⟧.meaning z) }
         ensures wide { IfErr result (λ op. IsOutOfRange W.greatest (tableau_of W.meaning self.now) op) }
     {
@@ -150,7 +150,7 @@ impl<'a, W: Whole> Tableau<'a, W> {
         requires optimal { IsOptimal (tableau_of W.meaning self.now) }
         requires least { IsLeastDenominator (tableau_of W.meaning self.now) (row_count self.now.program) (⟦<W128 as Whole>⟧.meaning den) }
         ensures count { IfOk result (λ _. length point.new.items ≡ column_count self.now.program) }
-        ensures coordinates { IfOk result (λ _. (x : ℕ → ℤ) → IsPoint (tableau_of W.meaning self.now) (⟦<W128 as Whole>⟧.meaning den) x
+        ensures coordinates { IfOk result (λ _. (x : ℕ → ℤ) → IsPointOfTableau (tableau_of W.meaning self.now) (⟦<W128 as Whole>⟧.meaning den) x
             → (j : ℕ) → 1 ≤ j → j ≤ column_count self.now.program → numbered (pos 0) point.new.items j ≡ x j) }
         ensures wide { IfErr result (λ op. IsOutOfRange W.greatest (tableau_of W.meaning self.now) op) }
     {

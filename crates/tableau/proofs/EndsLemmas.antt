@@ -8,11 +8,11 @@ use Rattle.algebra.specs.Sums.{sum_to}
 use Rattle.algebra.proofs.Products.{mults, int_mul_comm, int_mul_left_comm, int_neg_mul}
 use Rattle.algebra.proofs.Order.{int_lt_or_le, int_mul_le_left, int_mul_le_left_neg, int_min_of_le, int_min_of_ge, int_le_of_mul_left, int_le_antisymm}
 use Rattle.algebra.proofs.SumsLemmas.{sum_to_ext, sum_to_split, sum_to_only, sum_to_add, sum_to_mul_left, sum_to_neg}
-use Rattle.tableau.specs.Programs.{Given, last_column, cost_value, HasSlacks, IsOrdered, IsInBounds}
+use Rattle.tableau.specs.Programs.{Given, last_column, cost_value, HasSlacks, IsOrdered, LiesInBounds}
 use Rattle.tableau.specs.Signs.{turned, IsSameSign, IsOppositeSign}
 use Rattle.tableau.specs.Tableaux.{Tableau, IsRow, basic_entry, standing, summand, rest, row_at}
 use Rattle.tableau.specs.Exchanges.{IsOutside, IsMovable}
-use Rattle.tableau.specs.Ends.{IsOptimal, IsEmptyRow, IsPoint, turned_by, turned_row, ray, multiplier, reduced_cost, dual_value}
+use Rattle.tableau.specs.Ends.{IsOptimal, IsEmptyRow, IsPointOfTableau, turned_by, turned_row, ray, multiplier, reduced_cost, dual_value}
 use Rattle.tableau.specs.Laws.{IsCombination, MakesRowsZero, HasLaws}
 use Rattle.tableau.specs.declared.bound.Bound.{Bound}
 use Rattle.tableau.specs.declared.bound.Bound.TheVariants.{Lower, Upper}
@@ -257,7 +257,7 @@ module _ (t : Tableau) (laws : HasLaws t) (ordered : IsOrdered t.given) where
 
   -- ---- the point
 
-  module _ (den : ℤ) (x : ℕ → ℤ) (positive : pos 0 <ℤ den) (point : IsPoint t den x) where
+  module _ (den : ℤ) (x : ℕ → ℤ) (positive : pos 0 <ℤ den) (point : IsPointOfTableau t den x) where
     point_terms : (i j : ℕ) → IsRow t i → 1 ≤ j → j ≤ last_column g → t.basis i ≢ j → t.entry i j *ℤ x j ≡ den *ℤ summand t i j
     point_terms i j row low high differ = elim (basic_or_not t.basis j g.rows) [
       | inl k ↦
@@ -395,7 +395,7 @@ module _ (t : Tableau) (laws : HasLaws t) (ordered : IsOrdered t.given) where
         (bool_cases (t.at_high j))
 
     -- the point of an optimal tableau is in the bounds
-    pub point_in_bounds : IsOptimal t → IsInBounds g den x
+    pub point_in_bounds : IsOptimal t → LiesInBounds g den x
     point_in_bounds optimal = record {
       low = λ j first last. elim (basic_or_not t.basis j g.rows) [
         | inl k ↦ let P : ℕ → Type 0 = λ y. (g.low y *ℤ den) ≤ℤ x y in subst P k.3 (basic_low k.0 (k.1, k.2) (optimal k.0 Lower (k.1, k.2)))

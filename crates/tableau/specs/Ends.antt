@@ -35,7 +35,7 @@ pub record IsLeastDenominator (t : Tableau) (k : ℕ) (den : ℤ) : Type 0 where
   pub least : (other : ℤ) → ClearsTo t k other → Divides den other
 
 -- x over den is the tableau's point: nonbasic columns stand at their bounds, and basic ones have the value that makes their row 0
-pub record IsPoint (t : Tableau) (den : ℤ) (x : ℕ → ℤ) : Type 0 where
+pub record IsPointOfTableau (t : Tableau) (den : ℤ) (x : ℕ → ℤ) : Type 0 where
   pub nonbasic : (j : ℕ) → IsColumn t j → IsNonbasic t j → x j ≡ den *ℤ standing t j
   pub basic : (i : ℕ) → IsRow t i → basic_entry t i *ℤ x (t.basis i) +ℤ den *ℤ rest t i ≡ pos 0
 

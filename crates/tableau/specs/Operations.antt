@@ -3,7 +3,7 @@ use Rattle.std.specs.Prelude.{◌≡◌, ◌≢◌, ℕ, ◌-◌, ◌*◌, ◌�
 use Rattle.tableau.specs.Programs.{Given, last_column}
 use Rattle.tableau.specs.Tableaux.{Tableau, IsRow, IsColumn, basic_entry, summand, sum_up_to}
 use Rattle.tableau.specs.Exchanges.{IsOutside, IsEligible, IsGood, kept_product, taken_product, reduced}
-use Rattle.tableau.specs.Ends.{IsOptimal, IsLeastDenominator, IsPoint}
+use Rattle.tableau.specs.Ends.{IsOptimal, IsLeastDenominator, IsPointOfTableau}
 use Rattle.tableau.specs.declared.bound.Bound.{Bound}
 use Rattle.tableau.specs.declared.exchange.Exchange.{Exchange}
 use Rattle.tableau.specs.declared.op.Op.{Op}
@@ -47,7 +47,7 @@ pub record IsJoinValue (t : Tableau) (k : ℕ) (z : ℤ) : Type 0 where
   pub value :
       IsLeastDenominator t k z
       ⊎ ((k ≡ t.given.rows)
-      × ((den : ℤ) × (x : ℕ → ℤ) × (j : ℕ) × IsLeastDenominator t k den × IsPoint t den x × (1 ≤ j) × (j ≤ t.given.columns) × (x j ≡ z)))
+      × ((den : ℤ) × (x : ℕ → ℤ) × (j : ℕ) × IsLeastDenominator t k den × IsPointOfTableau t den x × (1 ≤ j) × (j ≤ t.given.columns) × (x j ≡ z)))
 
 -- z is an exact value of the operation on the tableau
 abbrev pub IsValueOf : Tableau → Op → ℤ → Type 0

@@ -3,7 +3,7 @@
 use Rattle.std.specs.Prelude.{◌≡◌, ℕ, List, ℤ}
 use Rattle.algebra.specs.Lists.{list_to}
 use Rattle.tableau.specs.Tableaux.{Tableau}
-use Rattle.tableau.specs.Ends.{IsLeastDenominator, IsPoint, multiplier, ray}
+use Rattle.tableau.specs.Ends.{IsLeastDenominator, IsPointOfTableau, multiplier, ray}
 use Rattle.tableau.specs.declared.bound.Bound.{Bound}
 
 -- the scale of the cost row
@@ -22,5 +22,5 @@ ray_of t row broken = list_to (ray t row broken) t.given.rows
 pub record IsPointOf (t : Tableau) (den : ℤ) (point : List ℤ) : Type 0 where
   pub least : IsLeastDenominator t t.given.rows den
   pub at : ℕ → ℤ
-  pub stands : IsPoint t den at
+  pub stands : IsPointOfTableau t den at
   pub shown : point ≡ list_to at t.given.columns

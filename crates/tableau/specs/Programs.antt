@@ -35,6 +35,6 @@ abbrev pub HasSlacks : Given → (ℕ → ℤ) → Type 0
 HasSlacks g x = (i : ℕ) → 1 ≤ i → i ≤ g.rows → x (g.columns + i) ≡ row_value g i x
 
 -- x over den lies in the bounds of every column
-pub record IsInBounds (g : Given) (den : ℤ) (x : ℕ → ℤ) : Type 0 where
+pub record LiesInBounds (g : Given) (den : ℤ) (x : ℕ → ℤ) : Type 0 where
   pub low : (j : ℕ) → 1 ≤ j → j ≤ last_column g → (g.low j *ℤ den) ≤ℤ x j
   pub high : (j : ℕ) → 1 ≤ j → j ≤ last_column g → g.has_high j ≡ true → x j ≤ℤ (g.high j *ℤ den)

@@ -5,23 +5,23 @@ use Rattle.best_first.specs.Keys.{IsAtMost}
 use Rattle.best_first.specs.KeyTrees.{KeyTree, ended, open_leaf, parted}
 
 -- on every path down to an open leaf stands a key of at least the given one
-abbrev pub Covers : ℤ × ℤ → KeyTree → Type 0
-Covers key ended = Unit {0}
-Covers key (open_leaf own) = IsAtMost key own
-Covers key (parted own first second) = IsAtMost key own ⊎ (Covers key first × Covers key second)
+abbrev pub CoversKey : ℤ × ℤ → KeyTree → Type 0
+CoversKey key ended = Unit {0}
+CoversKey key (open_leaf own) = IsAtMost key own
+CoversKey key (parted own first second) = IsAtMost key own ⊎ (CoversKey key first × CoversKey key second)
 
 -- the other tree covers the key of each split of the tree
 abbrev pub AreCovered : KeyTree → KeyTree → Type 0
 AreCovered ended other = Unit {0}
 AreCovered (open_leaf key) other = Unit {0}
-AreCovered (parted key first second) other = Covers key other × AreCovered first other × AreCovered second other
+AreCovered (parted key first second) other = CoversKey key other × AreCovered first other × AreCovered second other
 
 -- at each split the two parts cover each other's splits
-abbrev pub IsOrdered : KeyTree → Type 0
-IsOrdered ended = Unit {0}
-IsOrdered (open_leaf key) = Unit {0}
-IsOrdered (parted key first second) =
-    IsOrdered first × IsOrdered second × AreCovered first second × AreCovered second first
+abbrev pub IsOrderedTree : KeyTree → Type 0
+IsOrderedTree ended = Unit {0}
+IsOrderedTree (open_leaf key) = Unit {0}
+IsOrderedTree (parted key first second) =
+    IsOrderedTree first × IsOrderedTree second × AreCovered first second × AreCovered second first
 
 -- the keys of the open leaves, in the order of their paths
 abbrev pub open_keys : KeyTree → List (ℤ × ℤ)

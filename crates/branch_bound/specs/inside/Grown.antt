@@ -66,7 +66,7 @@ abbrev pub nodes_note : Optimum → NodeNote
 nodes_note o = Nodes o.trail o.den o.point o.scale o.mults
 
 -- scale, multipliers and value belong to the box
-pub record IsProved (road : Road) (box : BoxRange) (proved : Proved) : Type 0 where
+pub record IsProvedOfBox (road : Road) (box : BoxRange) (proved : Proved) : Type 0 where
   pub scale_within : IsScale proved.scale
   pub mults_sound : AreSound road box proved.mults
   pub value_is : proved.value ≡ box_value road box proved.scale proved.mults
@@ -79,20 +79,20 @@ pub record IsWaiting (road : Road) (box : BoxRange) (leaf : Waiting) : Type 0 wh
   pub asks : AsksFor road leaf.optimum.den leaf.optimum.point leaf.split
   pub optimum : IsOptimum (box_program road box) (exchange_budget road) leaf.optimum.trail leaf.optimum.den leaf.optimum.point leaf.optimum.scale leaf.optimum.mults
   pub narrow_key : IsNarrowKey (box_program road box) leaf.optimum.scale leaf.optimum.mults (proved_key leaf.proved)
-  pub own_bound : IsProved road box leaf.proved
+  pub own_bound : IsProvedOfBox road box leaf.proved
 
 -- each node is what it says, where the best plan has this cost, or there is none
-abbrev pub IsGood : Road → Option Fraction → Grown → BoxRange → Type 0
-IsGood road cost (dead_leaf mults) box = IsSoundDead road box mults
-IsGood road cost (whole_leaf proved) box = IsProved road box proved × IsAtLeastBound proved.value proved.scale cost
-IsGood road cost (stopped_leaf proved note) box = IsProved road box proved × IsShownStop road cost (box_program road box) note (proved_key proved)
-IsGood road cost (waiting_leaf leaf) box = IsWaiting road box leaf
-IsGood road cost (grown_fork split note key first second) box =
+abbrev pub IsGoodNode : Road → Option Fraction → Grown → BoxRange → Type 0
+IsGoodNode road cost (dead_leaf mults) box = IsSoundDead road box mults
+IsGoodNode road cost (whole_leaf proved) box = IsProvedOfBox road box proved × IsAtLeastBound proved.value proved.scale cost
+IsGoodNode road cost (stopped_leaf proved note) box = IsProvedOfBox road box proved × IsShownStop road cost (box_program road box) note (proved_key proved)
+IsGoodNode road cost (waiting_leaf leaf) box = IsWaiting road box leaf
+IsGoodNode road cost (grown_fork split note key first second) box =
     IsSplitOf road box split
     × IsShownSplit road cost (box_program road box) split note
     × IsKeyOf (box_program road box) note key
-    × IsGood road cost first (first_part box split)
-    × IsGood road cost second (second_part box split)
+    × IsGoodNode road cost first (first_part box split)
+    × IsGoodNode road cost second (second_part box split)
 
 -- what is proved of each leaf is a key
 abbrev pub AreKeys : Grown → Type 0

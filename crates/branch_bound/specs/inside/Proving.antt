@@ -29,7 +29,7 @@ abbrev pub pushed_unless_zero : List (ℕ × ℤ) → ℕ → ℤ → List (ℕ 
 pushed_unless_zero pairs row mult = if unsigned_abs mult == 0 then pairs else pairs ++ ((row, mult) ∷ [])
 
 -- the scale, or the magnitude of a multiplier, and past the limit
-pub record IsPastLimit (scale : ℤ) (mults : List ℤ) (number : ℤ) : Type 0 where
+pub record IsNumberPastLimit (scale : ℤ) (mults : List ℤ) (number : ℤ) : Type 0 where
   pub past : pos greatest_scale <ℤ number
   pub own : (number ≡ scale) ⊎ ((y : ℤ) × (Contains mults y × (number ≡ pos (unsigned_abs y))))
 

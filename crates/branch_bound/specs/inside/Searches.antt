@@ -9,10 +9,10 @@ use Rattle.milp_builder.specs.Parts.{first_part, second_part}
 use Rattle.milp_builder.specs.declared.boxes.BoxRange.{BoxRange}
 use Rattle.cert_tree.specs.Soundness.{IsAtLeastBound}
 use Rattle.best_first.specs.Keys.{IsKey, IsFirstLeast, key_at}
-use Rattle.best_first.specs.inside.Covers.{IsOrdered, open_keys}
+use Rattle.best_first.specs.inside.Covers.{IsOrderedTree, open_keys}
 use Rattle.branch_bound.specs.Endings.{IsPlanAt}
 use Rattle.branch_bound.specs.inside.Better.{IsBetter}
-use Rattle.branch_bound.specs.inside.Grown.{Grown, grown_of, node_total, IsGood, IsGrownLeaf, IsFinished, keys_of, waiting_count, waiting_at, AllReach}
+use Rattle.branch_bound.specs.inside.Grown.{Grown, grown_of, node_total, IsGoodNode, IsGrownLeaf, IsFinished, keys_of, waiting_count, waiting_at, AllReach}
 use Rattle.branch_bound.specs.declared.work.Waiting.{Waiting}
 use Rattle.branch_bound.specs.declared.best.Best.{Best}
 use Rattle.branch_bound.specs.declared.growing.Search.{Search}
@@ -21,14 +21,14 @@ use Rattle.branch_bound.specs.declared.best.Solved.{Solved}
 use Rattle.branch_bound.specs.declared.growing.SolvedParts.{SolvedParts}
 
 -- the cost of the best plan, where there is one
-abbrev pub cost_at : Option Best → Option Fraction
-cost_at None = None
-cost_at (Some best) = Some best.cost
+abbrev pub best_cost : Option Best → Option Fraction
+best_cost None = None
+best_cost (Some best) = Some best.cost
 
 -- the best plan, where there is one
-abbrev pub plan_at : Option Best → Option Plan
-plan_at None = None
-plan_at (Some best) = Some best.plan
+abbrev pub best_plan : Option Best → Option Plan
+best_plan None = None
+best_plan (Some best) = Some best.plan
 
 -- the best plan is admissible and has its cost; its denominator and the cost's numbers are within their widths
 pub record IsBestPlan (road : Road) (best : Best) : Type 0 where
@@ -41,33 +41,33 @@ IsBest road None = Unit {0}
 IsBest road (Some best) = IsBestPlan road best
 
 -- a box was solved: its leaf is good with the best plan now, which is no dearer than before
-pub record IsSolved (road : Road) (old : Option Best) (range : BoxRange) (solved : Solved) : Type 0 where
+pub record IsSolvedBox (road : Road) (old : Option Best) (range : BoxRange) (solved : Solved) : Type 0 where
   pub best_is : IsBest road solved.best
-  pub better : IsBetter (cost_at solved.best) (cost_at old)
+  pub better : IsBetter (best_cost solved.best) (best_cost old)
   pub is_leaf : IsGrownLeaf (grown_of solved.leaf)
-  pub good : IsGood road (cost_at solved.best) (grown_of solved.leaf) range
+  pub good : IsGoodNode road (best_cost solved.best) (grown_of solved.leaf) range
 
 -- both parts of a box were solved
 pub record AreSolved (road : Road) (old : Option Best) (first_range second_range : BoxRange) (solved : SolvedParts) : Type 0 where
   pub best_is : IsBest road solved.best
-  pub better : IsBetter (cost_at solved.best) (cost_at old)
+  pub better : IsBetter (best_cost solved.best) (best_cost old)
   pub first_leaf : IsGrownLeaf (grown_of solved.first)
   pub second_leaf : IsGrownLeaf (grown_of solved.second)
-  pub first_good : IsGood road (cost_at solved.best) (grown_of solved.first) first_range
-  pub second_good : IsGood road (cost_at solved.best) (grown_of solved.second) second_range
+  pub first_good : IsGoodNode road (best_cost solved.best) (grown_of solved.first) first_range
+  pub second_good : IsGoodNode road (best_cost solved.best) (grown_of solved.second) second_range
 
 -- every node is good, and the tree was grown best first
 pub record IsSearch (road : Road) (search : Search) : Type 0 where
   pub best_is : IsBest road search.best
-  pub good : IsGood road (cost_at search.best) (grown_of search.work) (root_box road)
-  pub ordered : IsOrdered (keys_of (grown_of search.work))
+  pub good : IsGoodNode road (best_cost search.best) (grown_of search.work) (root_box road)
+  pub ordered : IsOrderedTree (keys_of (grown_of search.work))
 
 -- a search that is finished with so many nodes, within the budget
 pub record IsFinishedSearch (road : Road) (finished : Finished) : Type 0 where
   pub search : IsSearch road finished.search
   pub counted : node_total (grown_of finished.search.work) ≡ finished.count
   pub within : pos finished.count ≤ℤ road.nodes
-  pub ended : IsFinished road (cost_at finished.search.best) finished.count (grown_of finished.search.work)
+  pub ended : IsFinished road (best_cost finished.search.best) finished.count (grown_of finished.search.work)
 
 -- each key's value over its scale is at least the cost
 abbrev pub DoReach : Option Fraction → List (ℤ × ℤ) → Type 0

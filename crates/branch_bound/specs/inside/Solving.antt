@@ -18,9 +18,9 @@ use Rattle.simplex.specs.Ends.{IsOptimum}
 use Rattle.branch_bound.specs.Optima.{exchange_budget}
 use Rattle.branch_bound.specs.Stops.{IsStop, HasPlanWithin}
 use Rattle.branch_bound.specs.inside.Better.{IsNoDearer}
-use Rattle.branch_bound.specs.inside.Grown.{dead_leaf, whole_leaf, stopped_leaf, grown_of, IsGrownLeaf, IsGood}
-use Rattle.branch_bound.specs.inside.Proving.{IsProvedOn, IsWritten, IsPastLimit}
-use Rattle.branch_bound.specs.inside.Searches.{cost_at, IsBest}
+use Rattle.branch_bound.specs.inside.Grown.{dead_leaf, whole_leaf, stopped_leaf, grown_of, IsGrownLeaf, IsGoodNode}
+use Rattle.branch_bound.specs.inside.Proving.{IsProvedOn, IsWritten, IsNumberPastLimit}
+use Rattle.branch_bound.specs.inside.Searches.{best_cost, IsBest}
 use Rattle.branch_bound.specs.declared.notes.NodeNote.{NodeNote}
 use Rattle.branch_bound.specs.declared.work.Proved.{Proved}
 use Rattle.branch_bound.specs.declared.work.Optimum.{Optimum}
@@ -30,9 +30,9 @@ use Rattle.branch_bound.specs.declared.best.Solved.{Solved}
 use Rattle.branch_bound.specs.declared.notes.NodeNote.TheVariants.{Limit}
 
 -- a leaf that is good on the box where the best plan has this cost
-pub record IsLeafOf (road : Road) (cost : Option Fraction) (box : BoxRange) (leaf : Work) : Type 0 where
+pub record IsLeafOfBox (road : Road) (cost : Option Fraction) (box : BoxRange) (leaf : Work) : Type 0 where
   pub is_leaf : IsGrownLeaf (grown_of leaf)
-  pub good : IsGood road cost (grown_of leaf) box
+  pub good : IsGoodNode road cost (grown_of leaf) box
 
 -- scale and multipliers that can be narrowed: the scale at least 1, a multiplier for each row, with the right signs, within 128 bits
 pub record AreProving (program : Program) (scale : ℤ) (mults : List ℤ) : Type 0 where
@@ -62,10 +62,10 @@ pub record IsOptimumOf (road : Road) (box : BoxRange) (optimum : Optimum) (prove
 pub record IsCheaper (found : Best) (old : Option Best) (best : Best) : Type 0 where
   pub one_of : (best ≡ found) ⊎ (Some best ≡ old)
   pub not_above_found : IsNoDearer (Some best.cost) (Some found.cost)
-  pub not_above_old : IsNoDearer (Some best.cost) (cost_at old)
+  pub not_above_old : IsNoDearer (Some best.cost) (best_cost old)
 
 -- an admissible plan at the cost of a point
-pub record IsPriced (road : Road) (program : Program) (den : ℤ) (point : List ℤ) (found : Best) : Type 0 where
+pub record IsPricedBest (road : Road) (program : Program) (den : ℤ) (point : List ℤ) (found : Best) : Type 0 where
   pub is_best : IsBest road (Some found)
   pub within : HasPlanWithin (Some found.cost) program den point
 
@@ -75,7 +75,7 @@ pub record IsWholeLeaf (optimum : Optimum) (proved : Proved) (found : Best) (old
   pub best_is : solved.best ≡ Some best
   pub cheaper : IsCheaper found old best
   pub leaf_is : (AreNarrow optimum.scale optimum.mults × (grown_of solved.leaf ≡ whole_leaf proved))
-      ⊎ ((number : ℤ) × (IsPastLimit optimum.scale optimum.mults number × (grown_of solved.leaf ≡ stopped_leaf proved (Limit optimum.trail number))))
+      ⊎ ((number : ℤ) × (IsNumberPastLimit optimum.scale optimum.mults number × (grown_of solved.leaf ≡ stopped_leaf proved (Limit optimum.trail number))))
 
 -- multipliers as they are written down, with a dead value above 0; or none, where it is at most 0
 abbrev pub AreDeadMults : Program → List ℤ → Option (List (ℕ × ℤ)) → Type 0

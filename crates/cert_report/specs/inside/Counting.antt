@@ -61,7 +61,7 @@ CountsOn rows whole (Ok false) levels lines leaves rest = leaves ≡ whole
 CountsOn rows whole (Err error) levels lines leaves rest = ⊥
 
 -- the count is this; after want of memory nothing is said
-abbrev pub IsCounted : Result OpenLeaves TextErr → OpenLeaves → Type 0
-IsCounted (Ok leaves) whole = leaves ≡ whole
-IsCounted (Err (Bad line)) whole = ⊥
-IsCounted (Err NoMemory) whole = Unit {0}
+abbrev pub IsWholeCount : Result OpenLeaves TextErr → OpenLeaves → Type 0
+IsWholeCount (Ok leaves) whole = leaves ≡ whole
+IsWholeCount (Err (Bad line)) whole = ⊥
+IsWholeCount (Err NoMemory) whole = Unit {0}

@@ -3,7 +3,7 @@
 --     is_named name entry      the entry has the name
 --     map_of part entries      the map that the entries stand for. The first entry with a name decides
 --     files_of, rooms_of      the maps of files and of rooms
---     IsFirst name entries i, HasNone name entries      the entry at i, counted from 0, is the first with the name; none has it
+--     IsFirstEntry name entries i, HasNone name entries      the entry at i, counted from 0, is the first with the name; none has it
 use Rattle.std.specs.Prelude.{◌≡◌, ℕ, ◌<◌, Bool, false, List, [], ◌∷◌, length, slice_index_or, Option, Some, None}
 use Rattle.std.specs.Ordering.{nat_cmp, eq_by_cmp}
 use Rattle.std.specs.Cmp.Lexicographic.{slice_cmp}
@@ -50,7 +50,7 @@ abbrev pub HasNone : List ℕ → List NamedFile → Type 0
 HasNone name entries = NoneBefore name entries (length entries)
 
 -- the entry at this index, counted from 0, is the first with the name
-pub record IsFirst (name : List ℕ) (entries : List NamedFile) (i : ℕ) : Type 0 where
+pub record IsFirstEntry (name : List ℕ) (entries : List NamedFile) (i : ℕ) : Type 0 where
   pub within : i < length entries
   pub named : (slice_index_or entries i (unused name)).name ≡ name
   pub before : NoneBefore name entries i

@@ -4,7 +4,7 @@ use Rattle.std.specs.Prelude.{ℕ, ◌≡◌, ◌+◌, zero, suc, List, [], ◌�
 use Rattle.text_parts.specs.Lines.{TextLine, Reading}
 use Rattle.plan_text.specs.declared.error.TextErr.{TextErr}
 use Rattle.plan_text.specs.declared.error.TextErr.TheVariants.{Bad, NoMemory}
-use Rattle.plan_text.specs.LineForms.{Form, line_numbers}
+use Rattle.plan_text.specs.LineForms.{LineForm, line_numbers}
 
 -- what a reader gives: a value and the reader of the lines behind it, or the number of the line that isn't of the form due
 abbrev pub Read : Type 0 → Type 0
@@ -34,12 +34,12 @@ abbrev pub behind : Reading → List TextLine → Reading
 behind lines others = record { source = lines.source; number = lines.number + 1; left = others }
 
 -- the numbers of the next line, which is to be of this form
-abbrev pub next_numbers : Form → List TextLine → Read (List ℤ)
+abbrev pub next_numbers : LineForm → List TextLine → Read (List ℤ)
 next_numbers form [] lines = Err (lines.number + 1)
 next_numbers form (line ∷ others) lines = taken (line_numbers form line) (behind lines others)
 
 -- the numbers of the next line, where it is of this form
-unfoldable pub numbers_due : Form → Read (List ℤ)
+unfoldable pub numbers_due : LineForm → Read (List ℤ)
 numbers_due form lines = next_numbers form lines.left lines
 
 -- so many values, one after another

@@ -20,17 +20,17 @@ entry_lines road plan Access t = access_lines road plan t
 entry_lines road plan Blocks t = λ k. block_line road plan k ∷ []
 
 -- how many entries there are
-abbrev pub entry_count : Road → Listing → ℕ
-entry_count road Profile = section_count road
-entry_count road Earthwork = section_count road
-entry_count road Right = hop_count road
-entry_count road Left = hop_count road
-entry_count road Access = access_count road
-entry_count road Blocks = block_count road
+abbrev pub listing_count : Road → Listing → ℕ
+listing_count road Profile = section_count road
+listing_count road Earthwork = section_count road
+listing_count road Right = hop_count road
+listing_count road Left = hop_count road
+listing_count road Access = access_count road
+listing_count road Blocks = block_count road
 
 -- the lines of all entries in stage t
 unfoldable pub listing_lines : Road → Plan → Listing → ℕ → List Line
-listing_lines road plan listing t = flat_to (entry_lines road plan listing t) (entry_count road listing)
+listing_lines road plan listing t = flat_to (entry_lines road plan listing t) (listing_count road listing)
 
 -- five costs and their sum
 abbrev pub cost_lines : Plan → ℤ → ℤ → ℤ → ℤ → ℤ → List Line

@@ -2,7 +2,7 @@
 use Rattle.std.specs.Prelude.{◌≤◌, Option, Some, ℤ}
 use Rattle.roadopt_program.specs.declared.forms.Command.{Command as Called}
 use Rattle.roadopt_program.specs.declared.forms.Command.TheVariants.{OnRoad, Trial}
-use Rattle.roadopt_program.specs.Forms.{Command, on_road, trial, trial_of}
+use Rattle.roadopt_program.specs.CommandWords.{Command, on_road, trial, trial_of}
 
 abbrev pub called : Called → Command
 called (OnRoad command) = on_road (record { verb = command.verb; road = command.road.now; other = command.other.now })

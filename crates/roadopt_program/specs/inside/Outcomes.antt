@@ -21,7 +21,7 @@ use Rattle.roadopt_program.specs.declared.status.Status.TheVariants.{WriteFault,
 use Rattle.roadopt_program.specs.CertChecking.{Checks}
 use Rattle.roadopt_program.specs.Due.{road_due, FollowsRoad, IsDueOnRoad}
 use Rattle.roadopt_program.specs.Ends.{End, NamedBytes, said, Output, after_fault, files_with}
-use Rattle.roadopt_program.specs.Forms.{RoadCommand, Command, on_road, trial}
+use Rattle.roadopt_program.specs.CommandWords.{RoadCommand, Command, on_road, trial}
 use Rattle.roadopt_program.specs.Inputs.{road_limit, other_limit, IsGiven, IsGivenWithin, IsGivenIfNamed, table_named}
 use Rattle.roadopt_program.specs.Judging.{Judges}
 use Rattle.roadopt_program.specs.Replaying.{Replays}

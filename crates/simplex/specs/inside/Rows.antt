@@ -1,5 +1,5 @@
 -- The rows of a store while an exchange is prepared: the rows of the tableau come first, and behind them as many spare ones.
-use Rattle.std.specs.Prelude.{◌≡◌, ◌≢◌, ◌↔◌, ℕ, ◌+◌, ◌<◌, ◌≤◌, ◌⊎◌, Bool, true, false, List, [], slice_index_or, slice_set, ℤ, pos, ◌-ℤ◌, ◌*ℤ◌, ◌<ℤ◌, unsigned_abs}
+use Rattle.std.specs.Prelude.{◌≡◌, ◌≢◌, ◌↔◌, ℕ, ◌+◌, ◌<◌, ◌≤◌, ◌⊎◌, Bool, true, false, List, slice_index_or, slice_set, ℤ, pos, ◌-ℤ◌, ◌*ℤ◌, ◌<ℤ◌, unsigned_abs}
 use Rattle.term_store.specs.declared.term.Term.{Term}
 use Rattle.tableau.specs.Signs.{turned}
 use Rattle.tableau.specs.Exchanges.{IsDivided, IsToward}

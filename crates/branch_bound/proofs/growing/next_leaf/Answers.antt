@@ -1,6 +1,6 @@
 use Rattle.std.proofs.Common.{◌∙◌}
 use Rattle.branch_bound.specs.inside.Grown.{grown_of}
-use Rattle.branch_bound.specs.inside.Searches.{cost_at}
+use Rattle.branch_bound.specs.inside.Searches.{best_cost}
 use Rattle.branch_bound.proofs.NextLemmas.{open_all_of, next_or_none}
 use Rattle.branch_bound.proofs.growing.next_leaf.Goals as goal
 
@@ -10,5 +10,5 @@ next_of-requires-clause-keys c =
 
 pub returns : goal.returns
 returns c =
-    next_or_none (cost_at c.args.search.now.best) (grown_of c.args.search.now.work) c.as_slice.result.now c.next_of.result
+    next_or_none (best_cost c.args.search.now.best) (grown_of c.args.search.now.work) c.as_slice.result.now c.next_of.result
     (c.as_slice.ensures.value ∙ c.in_ok-keys.ensures) c.next_of.ensures

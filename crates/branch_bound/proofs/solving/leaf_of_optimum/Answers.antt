@@ -5,7 +5,7 @@ use Rattle.std.specs.Prelude.{ℤ}
 use Rattle.algebra.specs.Scale.{IsScale}
 use Rattle.milp_builder.specs.BoxPrograms.{box_program}
 use Rattle.branch_bound.specs.inside.Asking.{IsAsked, AsksForNothing}
-use Rattle.branch_bound.specs.inside.Solving.{IsPriced}
+use Rattle.branch_bound.specs.inside.Solving.{IsPricedBest}
 use Rattle.branch_bound.proofs.EndLemmas.{den_scale, waiting_solved, denominator_solved}
 use Rattle.branch_bound.proofs.WholeLemmas.{whole_solved}
 use Rattle.branch_bound.proofs.solving.leaf_of_optimum.Goals as goal
@@ -41,8 +41,8 @@ returns c =
     let own = subst (λ (point : List ℤ). AsksForNothing road c.args.optimum.den point) c.as_slice.ensures none in
     let small = simp to_z-of_z at c.if-optimum-gt-GREATEST_SCALE.false in
     let scale : IsScale c.args.optimum.den = den_scale c.args.optimum.den c.requires.optimum.own_optimum.den_from_one (λ past. omega (arith, ints, small, past)) in
-    let priced : IsPriced road program c.args.optimum.den c.as_slice-2.result.now c.in_ok-found.found = simp to_z-of_z at c.in_ok-found.ensures in
+    let priced : IsPricedBest road program c.args.optimum.den c.as_slice-2.result.now c.in_ok-found.found = simp to_z-of_z at c.in_ok-found.ensures in
     whole_solved road c.args.range c.args.optimum c.args.proved c.in_ok-found.found c.args.best _ c.requires.optimum
     own.whole (own.exact scale.at_most)
-    (subst (λ (point : List ℤ). IsPriced road program c.args.optimum.den point c.in_ok-found.found) c.as_slice-2.ensures priced)
+    (subst (λ (point : List ℤ). IsPricedBest road program c.args.optimum.den point c.in_ok-found.found) c.as_slice-2.ensures priced)
     c.requires.best c.whole_leaf.ensures

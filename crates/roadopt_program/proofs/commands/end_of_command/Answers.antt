@@ -1,5 +1,5 @@
 use Rattle.std.proofs.Common.{rules, Ok, Err}
-use Rattle.roadopt_program.specs.Forms.{RoadCommand}
+use Rattle.roadopt_program.specs.CommandWords.{RoadCommand}
 use Rattle.roadopt_program.specs.inside.Outcomes.{IsRoadRead}
 use Rattle.roadopt_program.proofs.CommandLemmas.{all_made_on_road, made_early}
 use Rattle.roadopt_program.proofs.commands.end_of_command.Goals as goal

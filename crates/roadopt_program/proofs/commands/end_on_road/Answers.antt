@@ -1,5 +1,5 @@
 use Rattle.std.proofs.Common.{Some}
-use Rattle.roadopt_program.specs.Forms.{RoadCommand}
+use Rattle.roadopt_program.specs.CommandWords.{RoadCommand}
 use Rattle.roadopt_program.specs.Inputs.{IsGiven}
 use Rattle.roadopt_program.specs.inside.Outcomes.{OfBytes, end_of}
 use Rattle.roadopt_program.proofs.CommandLemmas.{made_of_bytes}

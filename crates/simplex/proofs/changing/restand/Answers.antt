@@ -1,6 +1,6 @@
-use Rattle.std.proofs.Common.{◌≡◌, ℕ, ◌<◌, ◌≤◌, length, arith, ap, sym, ◌∙◌}
+use Rattle.std.proofs.Common.{◌<◌, ◌≤◌, length, arith, ◌∙◌}
 use Rattle.std.proofs.Math.ListN.{length-set}
-use Rattle.simplex.proofs.Swapping.{IsWalked, walked_beyond, walked_more}
+use Rattle.simplex.proofs.Swapping.{walked_beyond, walked_more}
 use Rattle.simplex.proofs.changing.restand.Goals as goal
 
 pub returns-then-column-columns-clause-stood : goal.returns-then-column-columns-clause-stood

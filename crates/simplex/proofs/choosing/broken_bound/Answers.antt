@@ -1,8 +1,4 @@
-use Rattle.std.proofs.Common.{◌≡◌, ◌≢◌, ◌<◌, ◌⊎◌, inl, inr, true, false, length, arith, ap, sym, ◌∙◌, subst, refl}
-use Rattle.std.specs.Prelude.{ℤ, ◌+ℤ◌, ◌*ℤ◌, unsigned_abs}
-use Rattle.tableau.specs.Signs.{IsSameSign, IsOppositeSign}
-use Rattle.sparse_rows.specs.Lines.{entry_of}
-use Rattle.sparse_rows.specs.Sums.{meaning_at}
+use Rattle.std.proofs.Common.{◌<◌, inl, inr, true, false, length, arith, sym, refl}
 use Rattle.sparse_rows.proofs.LinesLemmas.{line_wider}
 use Rattle.sparse_rows.proofs.SumsLemmas.{meaning_here}
 use Rattle.sparse_rows.proofs.Tests.{told_true, told_false}

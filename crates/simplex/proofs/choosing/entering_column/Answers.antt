@@ -1,11 +1,7 @@
-use Rattle.std.proofs.Common.{◌≡◌, ◌≢◌, ◌<◌, ◌≤◌, ◌⊎◌, ℕ, true, false, length, arith, ap, sym, ◌∙◌, subst, refl}
-use Rattle.std.specs.Prelude.{ℤ, unsigned_abs}
-use Rattle.tableau.specs.Exchanges.{IsToward}
-use Rattle.sparse_rows.specs.Lines.{entry_of}
+use Rattle.std.proofs.Common.{true, false, length, arith, sym}
 use Rattle.sparse_rows.proofs.LinesLemmas.{line_wider}
-use Rattle.sparse_rows.proofs.Tests.{told_true, told_false}
 use Rattle.simplex.specs.inside.Choices.{MayEnter}
-use Rattle.simplex.proofs.Ratios.{best_none, best_skipped, best_replaced, best_kept, best_wide, t_end, t_entry, nothing_enters, best_chosen, toward_same}
+use Rattle.simplex.proofs.Ratios.{best_none, best_skipped, best_replaced, best_kept, best_wide, t_end, t_entry, best_chosen, toward_same}
 use Rattle.simplex.proofs.choosing.entering_column.Goals as goal
 
 pub loop-term-init : goal.loop-term-init

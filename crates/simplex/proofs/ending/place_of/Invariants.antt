@@ -1,4 +1,4 @@
-use Rattle.std.proofs.Common.{◌≡◌, ◌≤◌, ◌<◌, ℕ, get_or}
+use Rattle.std.proofs.Common.{◌≤◌, ◌<◌, ℕ, get_or}
 use Rattle.std.specs.Prelude.{◌≢◌}
 use Rattle.simplex.proofs.ending.place_of.Given as goal
 

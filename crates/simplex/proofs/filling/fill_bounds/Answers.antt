@@ -1,9 +1,8 @@
-use Rattle.std.proofs.Common.{◌≡◌, ◌+◌, ◌≤◌, List, ◌∷◌, ◌++◌, arith, ap, sym, ◌∙◌, subst, Bool}
+use Rattle.std.proofs.Common.{◌+◌, arith, ◌∙◌}
 use Rattle.std.proofs.Common.{rules}
 use Rattle.std.specs.Prelude.{FitsSigned}
 use Rattle.std.specs.Int.{w64}
 use Rattle.std.proofs.lemmas.Int.{to_z-of_z}
-use Rattle.simplex.specs.inside.Filled.{AreBounds}
 use Rattle.simplex.proofs.Fills.{bounds_more}
 use Rattle.simplex.proofs.filling.fill_bounds.Goals as goal
 

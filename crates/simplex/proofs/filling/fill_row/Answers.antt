@@ -1,18 +1,13 @@
-use Rattle.std.proofs.Common.{◌≡◌, ◌+◌, ◌≤◌, ◌<◌, ℕ, List, [], ◌∷◌, ◌++◌, length, get_or, take, inl, arith, ap, sym, ◌∙◌, subst, refl}
+use Rattle.std.proofs.Common.{◌≡◌, ◌≤◌, ◌<◌, List, length, get_or, take, inl, arith, ap, sym, ◌∙◌, subst, refl}
 use Rattle.std.proofs.Common.{rules}
 use Rattle.std.specs.Int.{w64}
-use Rattle.std.specs.Prelude.{FitsSigned, ℤ, pos, negsuc, neg_ℤ, ◌*ℤ◌, unsigned_abs, vec_capacity}
+use Rattle.std.specs.Prelude.{FitsSigned, ℤ, pos, negsuc, neg_ℤ, ◌*ℤ◌}
 use Rattle.std.proofs.lemmas.Int.{ints, to_z-of_z}
 use Rattle.std.proofs.lemmas.List.{take_all, take_more, length-take}
-use Rattle.algebra.specs.Numbered.{IsNumber}
 use Rattle.term_store.specs.declared.term.Term.{Term}
-use Rattle.programs.specs.Programs.{column_count, row_count, row_at, ProgramRow}
-use Rattle.sparse_rows.specs.Lines.{IsFilled}
+use Rattle.programs.specs.Programs.{row_at, ProgramRow}
 use Rattle.sparse_rows.proofs.Tests.{beyond}
 use Rattle.sparse_rows.proofs.Common.{AreQuotients, quotients_more, quotients_length}
-use Rattle.tableau.specs.Operations.{IsWideNumber}
-use Rattle.simplex.specs.Starts.{start_entry}
-use Rattle.simplex.specs.Givens.{given_of}
 use Rattle.simplex.proofs.Fills.{row_length, term_coefficient, term_column, term_first, row_filled, item_is}
 use Rattle.simplex.proofs.filling.fill_row.Goals as goal
 

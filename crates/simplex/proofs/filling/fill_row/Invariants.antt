@@ -1,4 +1,4 @@
-use Rattle.std.proofs.Common.{◌≡◌, ◌+◌, take}
+use Rattle.std.proofs.Common.{◌≡◌, take}
 use Rattle.std.specs.Prelude.{vec_capacity, ℤ, pos}
 use Rattle.sparse_rows.proofs.Common.{AreQuotients}
 use Rattle.simplex.proofs.filling.fill_row.Given as goal

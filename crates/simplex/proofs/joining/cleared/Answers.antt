@@ -1,5 +1,5 @@
-use Rattle.std.proofs.Common.{◌≡◌, ◌≤◌, ◌<◌, ℕ, arith, ap, sym, ◌∙◌, subst, refl}
-use Rattle.std.specs.Prelude.{ℤ, pos, ◌≢◌, ◌*ℤ◌, unsigned_abs}
+use Rattle.std.proofs.Common.{sym, ◌∙◌, subst}
+use Rattle.std.specs.Prelude.{ℤ, pos, ◌≢◌, ◌*ℤ◌}
 use Rattle.numbers.specs.Divisors.{Divides}
 use Rattle.sparse_rows.proofs.Tests.{beyond}
 use Rattle.simplex.proofs.Denominators.{part_divides, numerator_by, numerator_wide}

@@ -1,5 +1,5 @@
-use Rattle.std.proofs.Common.{◌≡◌, ◌≤◌, ◌<◌, ℕ, arith, ap, sym, ◌∙◌, subst, refl}
-use Rattle.std.specs.Prelude.{ℤ, pos, ◌≢◌, ◌*ℤ◌, unsigned_abs}
+use Rattle.std.proofs.Common.{sym, ◌∙◌, subst, refl}
+use Rattle.std.specs.Prelude.{ℤ, pos, ◌≢◌, ◌*ℤ◌}
 use Rattle.simplex.specs.inside.Joins.{IsJoined}
 use Rattle.simplex.proofs.Breaks.{some_weaker, none_case}
 use Rattle.simplex.proofs.Denominators.{joined_by, below_of_not}

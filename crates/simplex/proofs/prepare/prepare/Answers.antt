@@ -1,12 +1,8 @@
-use Rattle.std.proofs.Common.{◌≡◌, ℕ, ◌+◌, ◌<◌, ◌≤◌, List, [], get_or, length, arith, ap, sym, ◌∙◌, subst}
-use Rattle.std.specs.Prelude.{ℤ, vec_capacity}
-use Rattle.term_store.specs.declared.term.Term.{Term}
-use Rattle.sparse_rows.specs.Lines.{entry_of, IsLine}
-use Rattle.simplex.proofs.Reducing.{wide_row_same, leaves_same}
+use Rattle.std.proofs.Common.{ℕ, ◌+◌, ◌<◌, [], get_or, length, ◌∙◌, subst}
+use Rattle.std.specs.Prelude.{vec_capacity}
 use Rattle.std.proofs.Math.ListN.{length-set}
-use Rattle.simplex.proofs.Preparing.{ArePrepared, prepared_more}
+use Rattle.simplex.proofs.Preparing.{prepared_more}
 use Rattle.simplex.proofs.prepare.prepare.Goals as goal
-use Rattle.std.proofs.Common.{false}
 use Rattle.simplex.specs.inside.Rows.{IsPrepared}
 
 pub loop-k-preserved : goal.loop-k-preserved

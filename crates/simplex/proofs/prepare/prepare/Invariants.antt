@@ -1,6 +1,5 @@
-use Rattle.std.proofs.Common.{◌≡◌, ℕ, ◌+◌, ◌<◌, [], get_or, length, false}
+use Rattle.std.proofs.Common.{◌≡◌, length}
 use Rattle.std.specs.Prelude.{vec_capacity}
-use Rattle.simplex.specs.inside.Rows.{IsPrepared}
 use Rattle.simplex.proofs.Preparing.{ArePrepared}
 use Rattle.simplex.proofs.prepare.prepare.Given as goal
 

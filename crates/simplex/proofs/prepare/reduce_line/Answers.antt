@@ -1,12 +1,8 @@
-use Rattle.std.proofs.Common.{◌≡◌, ℕ, ◌+◌, ◌<◌, ◌≤◌, ◌⊎◌, inl, inr, List, [], get_or, length, arith, ap, sym, ◌∙◌, subst, refl}
-use Rattle.std.specs.Prelude.{ℤ, pos, ◌<ℤ◌, ◌≢◌, unsigned_abs, vec_capacity, slice_set}
-use Rattle.numbers.specs.Divisors.{Divides}
+use Rattle.std.proofs.Common.{ℕ, inl, inr, List, [], get_or, ap, sym, ◌∙◌, subst, refl}
+use Rattle.std.specs.Prelude.{ℤ, vec_capacity}
 use Rattle.term_store.specs.declared.term.Term.{Term}
-use Rattle.tableau.specs.Exchanges.{IsDivided}
 use Rattle.sparse_rows.specs.Lines.{entry_of, IsLine}
-use Rattle.sparse_rows.specs.Cells.{cell, IsWideCell}
 use Rattle.sparse_rows.proofs.LinesLemmas.{line_longer}
-use Rattle.simplex.specs.inside.Rows.{IsWideBy, reduced_by}
 use Rattle.simplex.proofs.Reducing.{same_cells, wide_same, wide_cell, wide_quotient, divisor_positive, reduced_divided, wide_within, entry_within}
 use Rattle.simplex.proofs.Outcomes.{ok_weaker, err_weaker}
 use Rattle.simplex.proofs.prepare.reduce_line.Goals as goal

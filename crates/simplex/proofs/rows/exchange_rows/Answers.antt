@@ -1,8 +1,7 @@
-use Rattle.std.proofs.Common.{◌≡◌, ℕ, ◌+◌, ◌<◌, ◌≤◌, List, [], get_or, length, Bool, false, cond, arith, ap, sym, ◌∙◌, subst}
+use Rattle.std.proofs.Common.{◌≡◌, ℕ, ◌+◌, ◌<◌, List, [], get_or, length, false, cond, arith, ap, sym, ◌∙◌, subst}
 use Rattle.std.specs.Prelude.{ℤ, vec_capacity}
 use Rattle.term_store.specs.declared.term.Term.{Term}
 use Rattle.tableau.specs.Exchanges.{IsToward}
-use Rattle.tableau.specs.declared.bound.Bound.{Bound}
 use Rattle.sparse_rows.specs.Lines.{entry_of, IsLine}
 use Rattle.simplex.specs.inside.Rows.{IsRestood}
 use Rattle.simplex.proofs.Swapping.{changed_row}

@@ -1,6 +1,4 @@
-use Rattle.std.proofs.Common.{◌≡◌, ℕ, ◌+◌, ◌≤◌, ◌<◌, List, [], ◌∷◌, ◌++◌, length, arith, ap, sym, ◌∙◌, subst, length-append}
-use Rattle.tableau.specs.Trails.{IsAfter}
-use Rattle.tableau.specs.declared.exchange.Exchange.{Exchange}
+use Rattle.std.proofs.Common.{[], ◌∷◌, length, arith, ap, ◌∙◌, length-append}
 use Rattle.tableau.proofs.TrailsLemmas.{after_more}
 use Rattle.sparse_rows.proofs.Tests.{told_false}
 use Rattle.simplex.specs.Givens.{given_of}

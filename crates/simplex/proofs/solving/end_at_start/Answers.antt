@@ -1,5 +1,5 @@
-use Rattle.std.proofs.Common.{◌≡◌, ◌≤◌, ℕ, List, length, ap, sym, ◌∙◌, subst, arith}
-use Rattle.std.specs.Prelude.{ℤ, pos, unsigned_abs}
+use Rattle.std.proofs.Common.{List, ap, sym, ◌∙◌, subst}
+use Rattle.std.specs.Prelude.{pos}
 use Rattle.algebra.specs.Lists.{list_to}
 use Rattle.tableau.specs.declared.exchange.Exchange.{Exchange}
 use Rattle.tableau.specs.declared.op.Op.TheVariants.{Value}

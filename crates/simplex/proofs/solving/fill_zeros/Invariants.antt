@@ -1,5 +1,5 @@
 use Rattle.std.proofs.Common.{◌≡◌, length}
-use Rattle.std.specs.Prelude.{ℤ, pos, vec_capacity}
+use Rattle.std.specs.Prelude.{pos, vec_capacity}
 use Rattle.algebra.specs.Lists.{list_to}
 use Rattle.simplex.proofs.solving.fill_zeros.Given as goal
 

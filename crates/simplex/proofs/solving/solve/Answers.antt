@@ -1,7 +1,7 @@
-use Rattle.std.proofs.Common.{◌≡◌, ◌≤◌, ℕ, List, [], length, ap, sym, ◌∙◌, subst, arith}
+use Rattle.std.proofs.Common.{sym, ◌∙◌, subst}
 use Rattle.programs.specs.Programs.{Program}
 use Rattle.tableau.specs.Trails.{IsAfter}
-use Rattle.simplex.specs.Ends.{IsEnd, IsReached}
+use Rattle.simplex.specs.Ends.{IsEnd}
 use Rattle.simplex.specs.Givens.{given_of}
 use Rattle.simplex.specs.States.{tableau_of}
 use Rattle.simplex.proofs.solving.solve.Goals as goal

@@ -1,4 +1,4 @@
-use Rattle.std.proofs.Common.{◌≡◌, ℕ, List, get_or, ap, ◌∙◌}
+use Rattle.std.proofs.Common.{ℕ, List, get_or, ap, ◌∙◌}
 use Rattle.simplex.specs.States.{State}
 use Rattle.simplex.proofs.table.Tableau.basic.Goals as goal
 

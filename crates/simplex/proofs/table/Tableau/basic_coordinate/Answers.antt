@@ -1,5 +1,4 @@
-use Rattle.std.proofs.Common.{◌≡◌, ◌+◌, ◌≤◌, ◌<◌, ◌^◌, ◌-◌, ℕ, arith, ap, sym, ◌∙◌, subst}
-use Rattle.std.specs.Prelude.{ℤ}
+use Rattle.std.proofs.Common.{◌^◌, ◌-◌, ℕ, arith, sym, subst}
 use Rattle.programs.specs.Programs.{row_count}
 use Rattle.tableau.specs.Operations.{IsOutOfRange}
 use Rattle.tableau.specs.declared.op.Op.TheVariants.{Join}

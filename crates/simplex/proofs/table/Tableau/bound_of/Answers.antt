@@ -1,10 +1,7 @@
-use Rattle.std.proofs.Common.{◌≡◌, ◌+◌, ◌≤◌, ℕ, List, length, Bool, arith, ap, sym, ◌∙◌, subst}
-use Rattle.std.specs.Prelude.{ℤ}
+use Rattle.std.proofs.Common.{List, Bool, arith, ap, ◌∙◌, subst}
 use Rattle.sparse_rows.specs.Sums.{standing_at}
-use Rattle.programs.specs.Programs.{row_count, column_count}
 use Rattle.tableau.specs.Tableaux.{standing}
-use Rattle.simplex.specs.States.{State, tableau_of, KeepsLaws}
-use Rattle.simplex.proofs.Keeping.{state}
+use Rattle.simplex.specs.States.{State, KeepsLaws}
 use Rattle.simplex.proofs.Selections.{stands_same}
 use Rattle.simplex.proofs.table.Tableau.bound_of.Goals as goal
 

@@ -1,10 +1,9 @@
-use Rattle.std.proofs.Common.{◌≡◌, sym, subst, rules}
-use Rattle.std.specs.Prelude.{ℤ, FitsSigned}
+use Rattle.std.proofs.Common.{rules}
+use Rattle.std.specs.Prelude.{FitsSigned}
 use Rattle.std.specs.Int.{w128}
 use Rattle.std.proofs.lemmas.Int.{to_z-of_z}
 use Rattle.simplex.specs.States.{tableau_of}
-use Rattle.simplex.specs.Choices.{IsChoice}
-use Rattle.simplex.proofs.Endings.{best_of, dead_of, spent_of, wide_of}
+use Rattle.simplex.proofs.Endings.{wide_of}
 use Rattle.simplex.proofs.table.Tableau.end.Goals as goal
 
 pub returns-in-Err-clause-end : goal.returns-in-Err-clause-end

@@ -1,20 +1,13 @@
-use Rattle.std.proofs.Common.{◌≡◌, ℕ, ◌+◌, ◌<◌, ◌≤◌, List, [], get_or, length, set, Bool, arith, ap, sym, ◌∙◌, subst}
-use Rattle.std.specs.Prelude.{ℤ, vec_capacity, ◌↔◌}
+use Rattle.std.proofs.Common.{◌≡◌, ℕ, List, [], get_or, length, set, Bool, arith, ap, sym, ◌∙◌, subst}
+use Rattle.std.specs.Prelude.{vec_capacity}
 use Rattle.std.specs.Vec.{with_items}
 use Rattle.std.proofs.lemmas.List.{with_items_is}
 use Rattle.programs.specs.Programs.{column_count}
-use Rattle.term_store.specs.declared.term.Term.{Term}
-use Rattle.tableau.specs.Programs.{HasSlacks}
 use Rattle.tableau.specs.Exchanges.{IsGood, IsResult}
 use Rattle.tableau.specs.Operations.{IsOutOfRange}
-use Rattle.tableau.specs.Laws.{HasLaws, MakesRowsZero}
-use Rattle.tableau.specs.declared.exchange.Exchange.{Exchange}
-use Rattle.tableau.specs.declared.op.Op.{Op}
 use Rattle.tableau.specs.declared.op.Op.TheVariants.{Cell}
-use Rattle.sparse_rows.specs.Lines.{entry_of, IsLine}
-use Rattle.simplex.specs.Givens.{given_of}
 use Rattle.simplex.specs.States.{State, tableau_of, KeepsLaws}
-use Rattle.simplex.specs.inside.Rows.{LeavesEntries, IsChangedRow, IsRestanding}
+use Rattle.simplex.specs.inside.Rows.{IsRestanding}
 use Rattle.simplex.proofs.Keeping.{state, rising_rows, leaves, wide_op, after_result, after_reached, same_state, kept_again, reached_points}
 use Rattle.simplex.proofs.table.Tableau.exchange.Goals as goal
 

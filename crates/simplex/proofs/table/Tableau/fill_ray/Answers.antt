@@ -1,11 +1,8 @@
-use Rattle.std.proofs.Common.{◌≡◌, ◌+◌, ◌≤◌, ◌<◌, ℕ, List, [], get_or, length, Bool, arith, ap, sym, ◌∙◌, subst}
+use Rattle.std.proofs.Common.{◌≡◌, List, length, arith, sym, subst}
 use Rattle.std.specs.Prelude.{ℤ, neg_ℤ, if◌then◌else◌}
 use Rattle.term_store.specs.declared.term.Term.{Term}
-use Rattle.sparse_rows.specs.Lines.{entry_of, IsLine}
-use Rattle.programs.specs.Programs.{row_count, column_count}
+use Rattle.sparse_rows.specs.Lines.{IsLine}
 use Rattle.tableau.specs.Ends.{turned_by}
-use Rattle.tableau.specs.OwnNumbers.{ray_of}
-use Rattle.simplex.specs.States.{tableau_of}
 use Rattle.simplex.proofs.Endings.{own_ray, ray_has_signs, ray_above, slacks_at, slacks_within}
 use Rattle.simplex.proofs.table.Tableau.fill_ray.Goals as goal
 

@@ -1,22 +1,19 @@
-use Rattle.std.proofs.Common.{◌≡◌, ℕ, ◌+◌, ◌-◌, ◌^◌, ◌≤◌, ◌<◌, List, [], get_or, length, Bool, arith, ap, sym, ◌∙◌, subst}
-use Rattle.std.specs.Prelude.{ℤ}
+use Rattle.std.proofs.Common.{◌≡◌, ℕ, ◌+◌, ◌-◌, ◌^◌, ◌<◌, List, [], get_or, length, Bool, arith, ap, sym, ◌∙◌, subst}
 use Rattle.std.proofs.lemmas.List.{get_or-take}
 use Rattle.term_store.specs.declared.term.Term.{Term}
 use Rattle.programs.specs.Programs.{row_count}
 use Rattle.tableau.specs.Tableaux.{IsRow}
 use Rattle.tableau.specs.Exchanges.{IsOutside}
-use Rattle.tableau.specs.Ends.{IsEmptyRow}
 use Rattle.tableau.specs.Operations.{IsOutOfRange}
 use Rattle.tableau.specs.declared.bound.Bound.{Bound}
 use Rattle.tableau.specs.declared.bound.Bound.TheVariants.{Lower, Upper}
-use Rattle.tableau.specs.declared.op.Op.{Op}
-use Rattle.tableau.specs.declared.op.Op.TheVariants.{Value, Ratio}
+use Rattle.tableau.specs.declared.op.Op.TheVariants.{Value}
 use Rattle.sparse_rows.specs.Lines.{IsLine}
-use Rattle.simplex.specs.States.{State, tableau_of, KeepsLaws}
-use Rattle.simplex.specs.inside.Choices.{IsBroken, IsWideSum, MayEnter, IsChosen, IsWideRatio}
+use Rattle.simplex.specs.States.{State, tableau_of}
+use Rattle.simplex.specs.inside.Choices.{IsBroken, IsWideSum}
 use Rattle.simplex.proofs.Keeping.{state}
-use Rattle.simplex.proofs.Breaks.{carry, some_weaker, none_weaker, none_both, out_weaker}
-use Rattle.simplex.proofs.Selections.{line_first, outside_of_broken, broken_of_outside, eligible_of_enters, enters_of_eligible, empty_of_none, wide_ratio, wide_sum}
+use Rattle.simplex.proofs.Breaks.{carry, some_weaker, none_both, out_weaker}
+use Rattle.simplex.proofs.Selections.{line_first, outside_of_broken, broken_of_outside, wide_sum}
 use Rattle.simplex.proofs.table.Tableau.outside.Goals as goal
 
 pub broken_bound-requires-clause-line : goal.broken_bound-requires-clause-line

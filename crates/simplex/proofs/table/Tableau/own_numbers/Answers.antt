@@ -1,11 +1,10 @@
-use Rattle.std.proofs.Common.{◌≡◌, ◌+◌, ◌≤◌, ◌<◌, ℕ, List, [], get_or, length, false, arith, ap, sym, ◌∙◌, subst}
+use Rattle.std.proofs.Common.{List, length, false, arith, ap, sym, ◌∙◌, subst}
 use Rattle.std.proofs.Common.{rules}
-use Rattle.std.specs.Prelude.{ℤ, FitsSigned}
+use Rattle.std.specs.Prelude.{FitsSigned}
 use Rattle.std.specs.Int.{w128}
 use Rattle.std.proofs.lemmas.Int.{to_z-of_z}
 use Rattle.term_store.specs.declared.term.Term.{Term}
 use Rattle.sparse_rows.specs.Lines.{entry_of, IsLine}
-use Rattle.programs.specs.Programs.{row_count, column_count}
 use Rattle.simplex.proofs.Endings.{own_numbers, slacks_at, slacks_within}
 use Rattle.simplex.proofs.table.Tableau.own_numbers.Goals as goal
 

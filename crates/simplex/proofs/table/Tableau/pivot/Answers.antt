@@ -1,5 +1,4 @@
 use Rattle.std.proofs.Common.{◌≡◌, ℕ, List, [], get_or, length, ap, sym, ◌∙◌, subst}
-use Rattle.std.specs.Prelude.{ℤ}
 use Rattle.term_store.specs.declared.term.Term.{Term}
 use Rattle.sparse_rows.specs.Lines.{entry_of, IsLine}
 use Rattle.tableau.specs.Tableaux.{basic_entry}

@@ -1,4 +1,4 @@
-use Rattle.std.proofs.Common.{◌≡◌, ◌+◌, ◌≤◌, ℕ, length, arith, ap}
+use Rattle.std.proofs.Common.{◌≡◌, arith, ap}
 use Rattle.programs.specs.Programs.{column_count}
 use Rattle.simplex.specs.States.{State}
 use Rattle.simplex.proofs.table.Tableau.row_of.Goals as goal

@@ -1,4 +1,4 @@
-use Rattle.std.proofs.Common.{◌≡◌, ◌+◌, ◌≤◌, ◌<◌, ◌^◌, ◌-◌, ℕ, arith, ap, sym, ◌∙◌, subst}
+use Rattle.std.proofs.Common.{◌<◌, ◌^◌, ◌-◌, ℕ, arith, ap, sym, ◌∙◌, subst}
 use Rattle.std.specs.Prelude.{ℤ, ◌*ℤ◌, unsigned_abs}
 use Rattle.programs.specs.Programs.{row_count}
 use Rattle.tableau.specs.Operations.{IsOutOfRange}

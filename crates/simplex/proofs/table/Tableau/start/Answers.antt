@@ -1,4 +1,3 @@
-use Rattle.std.proofs.Common.{◌≡◌, true, false}
 use Rattle.simplex.proofs.Starting.{not_in_range}
 use Rattle.simplex.proofs.table.Tableau.start.Goals as goal
 

@@ -1,11 +1,9 @@
-use Rattle.std.proofs.Common.{◌≡◌, ◌≢◌, ℕ, ◌+◌, ◌-◌, ◌^◌, ◌≤◌, ◌<◌, ◌⊎◌, inl, inr, List, get_or, arith, ap, sym, ◌∙◌, subst, refl, ⊎_elim}
+use Rattle.std.proofs.Common.{◌≡◌, ◌≢◌, ℕ, ◌+◌, ◌-◌, ◌^◌, ◌<◌, ◌⊎◌, inl, inr, List, get_or, arith, ap, sym, ◌∙◌, subst, refl, ⊎_elim}
 use Rattle.programs.specs.Programs.{row_count}
 use Rattle.tableau.specs.Tableaux.{IsRow}
 use Rattle.tableau.specs.declared.bound.Bound.{Bound}
 use Rattle.simplex.specs.States.{State, tableau_of, KeepsLaws}
-use Rattle.simplex.specs.inside.Surveys.{IsSurveyed}
-use Rattle.simplex.proofs.Keeping.{state}
-use Rattle.simplex.proofs.Surveying.{surveyed_begins, surveyed_inside, surveyed_outside, other_known, first_known}
+use Rattle.simplex.proofs.Surveying.{surveyed_inside, surveyed_outside, first_known}
 use Rattle.simplex.proofs.table.Tableau.survey.Goals as goal
 
 pub loop-k-preserved-in-Ok-None : goal.loop-k-preserved-in-Ok-None

@@ -1,4 +1,3 @@
-use Rattle.std.proofs.Common.{◌≡◌}
 use Rattle.std.specs.Prelude.{◌≢◌}
 use Rattle.simplex.specs.States.{tableau_of}
 use Rattle.simplex.specs.inside.Surveys.{IsSurveyed}
