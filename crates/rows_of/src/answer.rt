@@ -11,19 +11,25 @@ use std::alloc::AllocError;
 
 /// What is printed of a line such as `road.toml;rows;height 3 0 second`.
 pub(crate) fn answer(rt: &HostRuntime, line: &str) -> Result<String, AllocError> {
-    let alloc = rt.alloc();
     if let Some(numbers) = line.strip_prefix("narrow ") {
-        return multipliers::narrow_text(alloc, numbers);
+        return multipliers::narrow_text(rt.alloc(), numbers);
     }
     let (name, rest) = line.split_once(';').unwrap_or((line, ""));
+    match road_of(rt, name)? {
+        Some(road) => answer_on(rt, &road, rest),
+        None => String::from_str(rt.alloc(), "no road"),
+    }
+}
+
+/// What is printed of a road: what is asked, and behind it the splits that lead to the box.
+fn answer_on(rt: &HostRuntime, road: &Road, rest: &str) -> Result<String, AllocError>
+    requires { road_fault road.now ≡ None }
+{
     let (asked, splits) = rest.split_once(';').unwrap_or((rest, ""));
-    let Some(road) = road_of(rt, name)? else {
-        return String::from_str(alloc, "no road");
-    };
-    let Some(range) = box_of(alloc, &road, splits)? else {
-        return String::from_str(alloc, "no box");
-    };
-    answer_of(rt, &road, &range, asked)
+    match box_of(rt.alloc(), road, splits)? {
+        Some(range) => answer_of(rt, road, &range, asked),
+        None => String::from_str(rt.alloc(), "no box"),
+    }
 }
 
 /// What is printed of a box of a road: the first word names the calls, and what follows is theirs.

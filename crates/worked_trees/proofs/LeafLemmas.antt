@@ -1,6 +1,6 @@
 -- Trees of one leaf.
 use Rattle.std.proofs.Common.{◌≡◌, ℕ, ℤ, ◌≤◌, ◌^◌, List, Option, Some, refl, sym, ap₂, subst, arith, ◌∙◌}
-use Rattle.std.specs.Prelude.{IsTrue}
+use Rattle.std.specs.Prelude.{IsTrue, IfSome, None}
 use Rattle.std.proofs.lemmas.Bool.{false≢true}
 use Rattle.algebra.specs.Scale.{IsScale}
 use Rattle.road_types.specs.declared.road.Road.{Road}
@@ -11,7 +11,7 @@ use Rattle.milp_builder.specs.declared.boxes.Split.{Split}
 use Rattle.cert_tree.specs.Trees.{BoxTree, low, dead, fork, box_tree_of, node_count, AreMultipliersBehind, IsWithinWidths}
 use Rattle.cert_tree.specs.declared.tree.Tree.{Tree}
 use Rattle.cert_tree.specs.declared.tree.Why.{Why}
-use Rattle.search_trees.specs.RootedTrees.{is_leaf, IsLeafOf}
+use Rattle.search_trees.specs.RootedTrees.{RootedTree, is_leaf, IsLeafOf}
 use Rattle.search_trees.specs.Places.{is_leaf_at, box_at}
 use Rattle.search_trees.proofs.RootedLemmas.{one_node}
 
@@ -32,12 +32,19 @@ first_place (low scale mults cause) h = refl
 first_place (dead mults) h = refl
 first_place (fork split first second) h = absurd (false≢true h)
 
-pub splits_first : (road : Road) (tree : BoxTree) (box : BoxRange) (split : Split) (parts : BoxRange × BoxRange) → IsTrue (is_leaf tree)
-    → AreParts road box split (Some parts) → IsSplitOf road (box_at tree box 0) split
-splits_first road (low scale mults cause) box split parts h p = p.0
-splits_first road (dead mults) box split parts h p = p.0
-splits_first road (fork split first second) box other parts h p = absurd (false≢true h)
+pub splits_first : (road : Road) (tree : BoxTree) (box : BoxRange) (split : Split) → IsTrue (is_leaf tree) → IsSplitOf road box split → IsSplitOf road (box_at tree box 0) split
+splits_first road (low scale mults cause) box split h s = s
+splits_first road (dead mults) box split h s = s
+splits_first road (fork split first second) box other h s = absurd (false≢true h)
 
 pub are_parts : (road : Road) (box first second one two : BoxRange) (split : Split) → AreParts road box split (Some (first, second))
     → one ≡ first → two ≡ second → AreParts road box split (Some (one, two))
 are_parts road box first second one two split p f s = (p.0, ap₂ (λ (a b : BoxRange). (a, b)) f s ∙ p.1)
+
+-- the roots of two trees are the parts of a split, where both were made
+pub both_parts : (road : Road) (box one two : BoxRange) (split : Split) (first second : Option RootedTree) → AreParts road box split (Some (one, two))
+    → IfSome first (λ (t : RootedTree). t.root ≡ one) → IfSome second (λ (t : RootedTree). t.root ≡ two)
+    → IfSome first (λ (a : RootedTree). IfSome second (λ (b : RootedTree). AreParts road box split (Some (a.root, b.root))))
+both_parts road box one two split None second p f s = tt
+both_parts road box one two split (Some a) None p f s = tt
+both_parts road box one two split (Some a) (Some b) p f s = are_parts road box one two a.root b.root split p f s

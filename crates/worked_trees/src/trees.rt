@@ -1,12 +1,13 @@
 // Trees of nodes, and what is asked of them.
-ghost use Rattle.std.specs.Prelude.{◌≡◌, None, IfOk, IfSome, IsTrue, length};
+ghost use Rattle.std.specs.Prelude.{◌≡◌, None, Some, IfOk, IfSome, IsTrue, length};
 ghost use Rattle.road_types.specs.Faults.{road_fault};
 ghost use Rattle.milp_builder.specs.Boxes.{IsBoxOf};
+ghost use Rattle.milp_builder.specs.Parts.{AreParts, IsSplitOf};
 ghost use Rattle.cert_tree.specs.Trees.{box_tree_of};
 ghost use Rattle.search_trees.specs.RootedTrees.{FitsRoad, is_leaf};
 
 use crate::nodes::{leaf_of, split_of};
-use milp_builder::{BoxRange, parts, root_box};
+use milp_builder::{BoxRange, Split, parts, root_box};
 use road_types::Road;
 use search_trees::{SearchTree, least_bound};
 use std::alloc::{AllocError, Global};
@@ -38,8 +39,7 @@ pub(crate) fn joined_text(alloc: Global, road: &Road, nodes: &[&str]) -> Result<
     let Some(tree) = tree_of(alloc, road, nodes)? else {
         return String::from_str(alloc, "no tree");
     };
-    let count = tree.count();
-    format!(in alloc; "count {count}")
+    count_text(alloc, tree.count())
 }
 
 /// The tree of the nodes, where they are one on the box of all plans.
@@ -54,7 +54,7 @@ fn tree_of(alloc: Global, road: &Road, nodes: &[&str]) -> Result<Option<SearchTr
 }
 
 /// The tree on a box that begins at the next node, under at most so many splits.
-#[tactic(auto, using(crate::proofs::LeafLemmas::are_parts))]
+#[tactic(auto, using(crate::proofs::LeafLemmas::both_parts))]
 fn part_of(
     alloc: Global,
     road: &Road,
@@ -81,18 +81,61 @@ fn part_of(
     let Some((first, second)) = parts(alloc, road, &range, split)? else {
         return Ok(None);
     };
-    let Some(first) = part_of(alloc, road, first, nodes, next, levels - 1)? else {
-        return Ok(None);
-    };
-    let Some(second) = part_of(alloc, road, second, nodes, next, levels - 1)? else {
-        return Ok(None);
-    };
-    if first.count() > 1000 || second.count() > 1000 {
-        return Ok(None);
+    let first = part_of(alloc, road, first, nodes, next, levels - 1)?;
+    let second = part_of(alloc, road, second, nodes, next, levels - 1)?;
+    joined(alloc, road, range, split, first, second)
+}
+
+/// The tree of a split over the trees of its parts, where both were made and are small.
+fn joined(
+    alloc: Global,
+    road: &Road,
+    range: BoxRange,
+    split: Split,
+    first: Option<SearchTree>,
+    second: Option<SearchTree>,
+) -> Result<Option<SearchTree>, AllocError>
+    requires accepted { road_fault road.now ≡ None }
+    requires fits { IsBoxOf road.now range }
+    requires first { IfSome first (FitsRoad road.now) }
+    requires second { IfSome second (FitsRoad road.now) }
+    requires parts { IfSome first (λ one. IfSome second (λ two. AreParts road.now range split (Some (one.root, two.root)))) }
+    ensures fits { IfOk result (λ found. IfSome found (FitsRoad road.now)) }
+    ensures root { IfOk result (λ found. IfSome found (λ tree. tree.root ≡ range)) }
+{
+    match first {
+        None => Ok(None),
+        Some(first) => match second {
+            None => Ok(None),
+            Some(second) => small_join(alloc, road, range, split, first, second),
+        },
     }
-    match SearchTree::join(alloc, road, range, split, first, second) {
-        Ok(tree) => Ok(Some(tree)),
-        Err(_) => Err(AllocError),
+}
+
+/// The tree of a split over two small trees; none where one of them isn't.
+fn small_join(
+    alloc: Global,
+    road: &Road,
+    range: BoxRange,
+    split: Split,
+    first: SearchTree,
+    second: SearchTree,
+) -> Result<Option<SearchTree>, AllocError>
+    requires accepted { road_fault road.now ≡ None }
+    requires fits { IsBoxOf road.now range }
+    requires first { FitsRoad road.now first }
+    requires second { FitsRoad road.now second }
+    requires parts { AreParts road.now range split (Some (first.root, second.root)) }
+    ensures fits { IfOk result (λ found. IfSome found (FitsRoad road.now)) }
+    ensures root { IfOk result (λ found. IfSome found (λ tree. tree.root ≡ range)) }
+{
+    if first.count() > 1000 || second.count() > 1000 {
+        Ok(None)
+    } else {
+        match SearchTree::join(alloc, road, range, split, first, second) {
+            Ok(tree) => Ok(Some(tree)),
+            Err(_) => Err(AllocError),
+        }
     }
 }
 
@@ -123,15 +166,33 @@ pub(crate) fn grown_text(alloc: Global, road: &Road, nodes: &[&str]) -> Result<S
         return String::from_str(alloc, "no tree");
     }
     let root = root_box(alloc, road)?;
-    let Some(mut tree) = leaf_on(alloc, road, root, nodes[0])? else {
-        return String::from_str(alloc, "no tree");
-    };
-    if grow(alloc, road, &mut tree, nodes)? {
-        let count = tree.count();
-        format!(in alloc; "count {count}")
-    } else {
-        String::from_str(alloc, "no split")
+    match leaf_on(alloc, road, root, nodes[0])? {
+        Some(tree) => count_grown(alloc, road, tree, nodes),
+        None => String::from_str(alloc, "no tree"),
     }
+}
+
+fn count_grown(
+    alloc: Global,
+    road: &Road,
+    tree: SearchTree,
+    nodes: &[&str],
+) -> Result<String, AllocError>
+    requires accepted { road_fault road.now ≡ None }
+    requires fits { FitsRoad road.now tree }
+    requires leaf { IsTrue (is_leaf (box_tree_of tree.tree)) }
+    requires nodes { length nodes.now ≡ 4 }
+{
+    let mut tree = tree;
+    match grow(alloc, road, &mut tree, nodes) {
+        Ok(true) => count_text(alloc, tree.count()),
+        Ok(false) => String::from_str(alloc, "no split"),
+        Err(error) => Err(error),
+    }
+}
+
+fn count_text(alloc: Global, count: usize) -> Result<String, AllocError> {
+    format!(in alloc; "count {count}")
 }
 
 /// Splits the one leaf of a tree, where that can be done.
@@ -150,9 +211,9 @@ fn grow(
     let Some(split) = split_of(nodes[1]) else {
         return Ok(false);
     };
-    let Some(_parts) = parts(alloc, road, tree.root(), split)? else {
+    if !is_split_of(alloc, road, tree.root(), split)? {
         return Ok(false);
-    };
+    }
     let Some(first) = leaf_of(alloc, road, nodes[2])? else {
         return Ok(false);
     };
@@ -161,4 +222,21 @@ fn grow(
     };
     tree.split_leaf(alloc, road, 0, split, first, second)?;
     Ok(true)
+}
+
+/// Whether a split is one of the box.
+fn is_split_of(
+    alloc: Global,
+    road: &Road,
+    range: &BoxRange,
+    split: Split,
+) -> Result<bool, AllocError>
+    requires accepted { road_fault road.now ≡ None }
+    requires fits { IsBoxOf road.now range.now }
+    ensures { IfOk result (λ told. IsTrue told → IsSplitOf road.now range.now split) }
+{
+    match parts(alloc, road, range, split)? {
+        Some(_) => Ok(true),
+        None => Ok(false),
+    }
 }

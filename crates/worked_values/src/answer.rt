@@ -24,9 +24,7 @@ pub(crate) fn answer(rt: &HostRuntime, line: &str) -> Result<String, AllocError>
         "road" => roads::read(rt, rest),
         "check" => roads::check(rt, rest),
         "lists" => roads::lists(alloc),
-        "plan" => plans::rewrite(rt, rest),
-        "behind" => plans::behind(rt, rest),
-        "heights" => plans::heights(rt, rest),
+        "plan" | "behind" | "heights" => plans::asked(rt, name, rest),
         _ => String::from_str(alloc, "no such calls"),
     }
 }

@@ -14,19 +14,47 @@ use road_types::{Road, table_volume};
 use std::alloc::{AllocError, Global};
 use text_parts::Lines;
 
-/// The text that is written of the plan of a file on the road of another, behind the bytes `before:`, after its denominator, the
-/// numbers of its pieces and stages, and its opening stages.
-pub(crate) fn rewrite(rt: &HostRuntime, names: &str) -> Result<String, AllocError> {
-    let alloc = rt.alloc();
-    let (road_name, plan_name) = names.split_once(' ').unwrap_or((names, ""));
-    let text = file(rt, plan_name)?;
-    let Some(road) = road(rt, road_name)? else {
-        return String::from_str(alloc, "no road");
-    };
-    match read_whole_plan(alloc, &road, text.as_slice()) {
-        Ok(plan) => written(alloc, &road, &plan),
-        Err(TextErr::Bad { line }) => format!(in alloc; "line {line}"),
-        Err(TextErr::NoMemory) => Err(AllocError),
+/// What is asked of the text of a file, on the road of another:
+///
+/// - `plan`: the text that is written of its plan behind the bytes `before:`, after its denominator, the numbers of its pieces and
+///   stages, and its opening stages;
+/// - `behind`: its first line, the denominator of the plan behind that, the number of lines that were given once the plan was read,
+///   and the line behind the plan;
+/// - `heights`: height, offset and volume of a cut of 10 mm at each section, of a plan that breaks the second rule first.
+pub(crate) fn asked(rt: &HostRuntime, what: &str, names: &str) -> Result<String, AllocError> {
+    let (road_name, text_name) = names.split_once(' ').unwrap_or((names, ""));
+    match road(rt, road_name)? {
+        Some(road) => asked_on(rt, what, &road, text_name),
+        None => String::from_str(rt.alloc(), "no road"),
+    }
+}
+
+fn asked_on(
+    rt: &HostRuntime,
+    what: &str,
+    road: &Road,
+    text_name: &str,
+) -> Result<String, AllocError> {
+    let text = file(rt, text_name)?;
+    match what {
+        "plan" => rewritten(rt.alloc(), road, text.as_slice()),
+        "behind" => behind(rt.alloc(), road, text.as_slice()),
+        _ => heights(rt.alloc(), road, text.as_slice()),
+    }
+}
+
+fn rewritten(alloc: Global, road: &Road, text: &[u8]) -> Result<String, AllocError> {
+    match read_whole_plan(alloc, road, text) {
+        Ok(plan) => written(alloc, road, &plan),
+        Err(error) => refused(alloc, &error),
+    }
+}
+
+/// The line at which a text isn't that of a plan.
+fn refused(alloc: Global, error: &TextErr) -> Result<String, AllocError> {
+    match error {
+        TextErr::Bad { line } => format!(in alloc; "line {line}"),
+        TextErr::NoMemory => Err(AllocError),
     }
 }
 
@@ -45,37 +73,31 @@ fn written(alloc: Global, road: &Road, plan: &Plan) -> Result<String, AllocError
     format!(in alloc; "{den} {pieces} {stages} {opens:?} {text}")
 }
 
-/// The number of lines that were given once a plan was read behind one line of a file, and the line behind the plan.
-pub(crate) fn behind(rt: &HostRuntime, names: &str) -> Result<String, AllocError> {
-    let alloc = rt.alloc();
-    let (road_name, text_name) = names.split_once(' ').unwrap_or((names, ""));
-    let text = file(rt, text_name)?;
-    let Some(road) = road(rt, road_name)? else {
-        return String::from_str(alloc, "no road");
-    };
-    let mut lines = Lines::over(text.as_slice());
-    let first = shown::bytes(alloc, lines.next().map(|line| line.bytes()))?;
-    match read_plan(alloc, &road, &mut lines) {
-        Ok(plan) => {
-            let (den, number) = (plan.den, lines.number());
-            let rest = shown::bytes(alloc, lines.next().map(|line| line.bytes()))?;
-            format!(in alloc; "{first} {den} {number} {rest}")
-        }
-        Err(TextErr::Bad { line }) => format!(in alloc; "line {line}"),
-        Err(TextErr::NoMemory) => Err(AllocError),
+fn behind(alloc: Global, road: &Road, text: &[u8]) -> Result<String, AllocError> {
+    let mut lines = Lines::over(text);
+    let first = lines.next().map(|line| line.bytes());
+    match read_plan(alloc, road, &mut lines) {
+        Ok(plan) => behind_plan(alloc, first, plan.den, &mut lines),
+        Err(error) => refused(alloc, &error),
     }
 }
 
-/// Height, offset and volume of a cut of 10 mm at each section, of a plan that breaks the second rule first.
-pub(crate) fn heights(rt: &HostRuntime, names: &str) -> Result<String, AllocError> {
-    let alloc = rt.alloc();
-    let (road_name, plan_name) = names.split_once(' ').unwrap_or((names, ""));
-    let text = file(rt, plan_name)?;
-    let Some(road) = road(rt, road_name)? else {
-        return String::from_str(alloc, "no road");
-    };
-    match read_whole_plan(alloc, &road, text.as_slice()) {
-        Ok(plan) => all_measures(alloc, &road, &plan),
+/// The first line, the denominator of a plan, the number of lines that were given, and the next one.
+fn behind_plan(
+    alloc: Global,
+    first: Option<&[u8]>,
+    den: i128,
+    lines: &mut Lines,
+) -> Result<String, AllocError> {
+    let number = lines.number();
+    let first = shown::bytes(alloc, first)?;
+    let rest = shown::bytes(alloc, lines.next().map(|line| line.bytes()))?;
+    format!(in alloc; "{first} {den} {number} {rest}")
+}
+
+fn heights(alloc: Global, road: &Road, text: &[u8]) -> Result<String, AllocError> {
+    match read_whole_plan(alloc, road, text) {
+        Ok(plan) => all_measures(alloc, road, &plan),
         Err(_) => String::from_str(alloc, "no plan"),
     }
 }
@@ -83,13 +105,20 @@ pub(crate) fn heights(rt: &HostRuntime, names: &str) -> Result<String, AllocErro
 fn all_measures(alloc: Global, road: &Road, plan: &Plan) -> Result<String, AllocError> {
     let mut all = String::new(alloc);
     for i in 0..road.sections.len() {
-        let part = match measures_at(road, plan, i.saturating_add(1)) {
-            Some((height, offset, volume)) => format!(in alloc; "{height} {offset} {volume}, ")?,
-            None => String::from_str(alloc, "none, ")?,
-        };
+        let part = measures_shown(alloc, measures_at(road, plan, i.saturating_add(1)))?;
         all.push_str(part.as_str())?;
     }
     Ok(all)
+}
+
+fn measures_shown(
+    alloc: Global,
+    measures: Option<(i128, i128, i128)>,
+) -> Result<String, AllocError> {
+    match measures {
+        Some((height, offset, volume)) => format!(in alloc; "{height} {offset} {volume}, "),
+        None => String::from_str(alloc, "none, "),
+    }
 }
 
 /// Height, offset and volume at the section with this number, from 1.

@@ -2,7 +2,7 @@
 use crate::shown;
 use outside::{DiskStore, Store};
 use road_file::read_road;
-use road_types::{Fixed, Hop, Listed, Pit, PitKind, Road, Text};
+use road_types::{Fault, Fixed, Hop, Listed, Pit, PitKind, Road, Text};
 use std::alloc::{AllocError, Global};
 
 /// The most bytes that are read of a file here.
@@ -35,17 +35,32 @@ pub(crate) fn read(rt: &HostRuntime, name: &str) -> Result<String, AllocError> {
 /// The first fault of the road of one section in the file `one.toml`, once a part of its record is another: `kept`, `name`
 /// (of its pit, with a space), `fixed` (a point beyond the last knot), `hops` (one, where there is one section).
 pub(crate) fn check(rt: &HostRuntime, part: &str) -> Result<String, AllocError> {
-    let alloc = rt.alloc();
-    let Some(mut road) = road(rt, "one.toml")? else {
-        return String::from_str(alloc, "no road");
-    };
+    match road(rt, "one.toml")? {
+        Some(road) => altered_fault(rt.alloc(), road, part),
+        None => String::from_str(rt.alloc(), "no road"),
+    }
+}
+
+fn altered_fault(alloc: Global, road: Road, part: &str) -> Result<String, AllocError> {
+    let mut road = road;
+    match alter(alloc, &mut road, part) {
+        Ok(()) => fault_shown(alloc, road.check()),
+        Err(error) => Err(error),
+    }
+}
+
+fn alter(alloc: Global, road: &mut Road, part: &str) -> Result<(), AllocError> {
     match part {
         "name" => road.pits = pits(alloc)?,
         "fixed" => road.fixed = Listed::new(Vec::from_array(alloc, [BEYOND])?),
         "hops" => road.hops = Listed::new(Vec::from_array(alloc, [HOP])?),
         _ => {}
     }
-    match road.check() {
+    Ok(())
+}
+
+fn fault_shown(alloc: Global, fault: Option<Fault>) -> Result<String, AllocError> {
+    match fault {
         Some(fault) => format!(in alloc; "{fault:?}"),
         None => String::from_str(alloc, "none"),
     }

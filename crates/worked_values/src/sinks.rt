@@ -13,14 +13,17 @@ pub(crate) fn sink(alloc: Global, rest: &str) -> Result<String, AllocError> {
     let mut sink = MemSink::new(alloc, room.parse::<usize>().unwrap_or(0), fails.as_slice())?;
     let mut all = String::new(alloc);
     for word in puts.split_whitespace() {
-        let bytes = if word == "-" { "" } else { word };
-        let end = put_shown(sink.put(bytes.as_bytes()));
-        let written = shown::bytes(alloc, Some(sink.written()))?;
-        let faults = sink.faults();
-        let part = format!(in alloc; "{end} {written} {faults}, ")?;
+        let part = put_word(alloc, &mut sink, if word == "-" { "" } else { word })?;
         all.push_str(part.as_str())?;
     }
     Ok(all)
+}
+
+fn put_word(alloc: Global, sink: &mut MemSink, word: &str) -> Result<String, AllocError> {
+    let end = put_shown(sink.put(word.as_bytes()));
+    let written = shown::bytes(alloc, Some(sink.written()))?;
+    let faults = sink.faults();
+    format!(in alloc; "{end} {written} {faults}, ")
 }
 
 /// How a put ended.

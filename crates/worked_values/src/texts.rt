@@ -12,8 +12,12 @@ pub(crate) fn number(alloc: Global, text: &str) -> Result<String, AllocError> {
 /// The lines of the text, each with its number, its span and its end.
 pub(crate) fn lines(alloc: Global, text: &str) -> Result<String, AllocError> {
     let text = shown::unescaped(alloc, text)?;
+    all_lines(alloc, text.as_bytes())
+}
+
+fn all_lines(alloc: Global, text: &[u8]) -> Result<String, AllocError> {
     let mut all = String::new(alloc);
-    let mut lines = Lines::over(text.as_bytes());
+    let mut lines = Lines::over(text);
     for _ in 0..text.len() {
         let Some(line) = lines.next() else {
             break;
@@ -50,14 +54,23 @@ fn line_words(alloc: Global, line: &Line) -> Result<String, AllocError> {
     let mut all = String::new(alloc);
     let mut count = 0usize;
     for word in line.words() {
-        let numbered = shown::bytes(alloc, line.word(count))?;
-        let word = shown::bytes(alloc, Some(word))?;
-        let part = format!(in alloc; "{word} {count} is {numbered}, ")?;
+        let part = word_shown(alloc, word, count, line.word(count))?;
         all.push_str(part.as_str())?;
         count = count.saturating_add(1);
     }
     let past = shown::bytes(alloc, line.word(count))?;
     format!(in alloc; "{all}{count} is {past}")
+}
+
+fn word_shown(
+    alloc: Global,
+    word: &[u8],
+    count: usize,
+    numbered: Option<&[u8]>,
+) -> Result<String, AllocError> {
+    let word = shown::bytes(alloc, Some(word))?;
+    let numbered = shown::bytes(alloc, numbered)?;
+    format!(in alloc; "{word} {count} is {numbered}, ")
 }
 
 /// What stands before and behind the first colon of the text.
