@@ -27,10 +27,12 @@ fn answer_of(alloc: Global, road: &Road, asked: &str) -> Result<String, AllocErr
     requires accepted { road_fault road.now ≡ None }
 {
     for _ in 0..asked.parse::<u32>().unwrap_or(0) {
-        search(alloc, road)?;
+        drop(search(alloc, road)?);
     }
     let found = search(alloc, road)?;
-    found_text(alloc, road, &found, asked)
+    let text = found_text(alloc, road, &found, asked);
+    drop(found);
+    text
 }
 
 /// What is printed of what was found.
