@@ -1,5 +1,4 @@
-// The best plan that was found, and the leaf of a solved box.
-use crate::work::Work;
+// The best plan that was found.
 use numbers::Frac;
 use plan_rules::Plan;
 
@@ -8,11 +7,4 @@ use plan_rules::Plan;
 pub struct Best {
     pub plan: Plan,
     pub cost: Frac,
-}
-
-/// The leaf of a box, and the best plan after it.
-#[derive(Debug, Drop)]
-pub struct Solved {
-    pub leaf: Work,
-    pub best: Option<Best>,
 }

@@ -8,6 +8,7 @@ use crate::work::{Optimum, Waiting, Work};
 use node_box::NodeBox;
 use road_types::Listed;
 use std::alloc::{AllocError, Global};
+use std::mem;
 
 /// The keys of the waiting leaves, in preorder, are put behind the others.
 pub(crate) fn push_keys(work: &Work, keys: &mut Vec<(i128, i128)>) -> Result<(), AllocError>
@@ -85,14 +86,23 @@ pub(crate) fn nodes_note(optimum: Optimum) -> NodeNote
     }
 }
 
-/// The tree with the waiting leaf of a number, counted from 0 in preorder, split into two others. It takes no memory.
-pub(crate) fn part_at(
+/// Splits the waiting leaf of a number, counted from 0 in preorder, into two others. It takes no memory.
+pub(crate) fn part_leaf(
     alloc: Global,
-    work: Work,
+    work: &mut Work,
     at: usize,
     one: NodeBox<Work>,
     two: NodeBox<Work>,
-) -> Work
+)
+    requires count { waiting_count (grown_of work.old) < 2 ^ 32 }
+    ensures { grown_of work.new ≡ parted_at (grown_of work.old) at (grown_of one) (grown_of two) }
+{
+    let old = mem::replace(work, nothing(alloc));
+    *work = part_at(alloc, old, at, one, two);
+}
+
+/// The tree with the waiting leaf of a number split into two others.
+fn part_at(alloc: Global, work: Work, at: usize, one: NodeBox<Work>, two: NodeBox<Work>) -> Work
     requires count { waiting_count (grown_of work) < 2 ^ 32 }
     ensures { grown_of result ≡ parted_at (grown_of work) at (grown_of one) (grown_of two) }
 {
