@@ -3,7 +3,7 @@ use numbers::Frac;
 use plan_rules::Plan;
 
 /// A plan with its cost.
-#[derive(Debug, Drop)]
+#[derive(Drop)]
 pub struct Best {
     pub plan: Plan,
     pub cost: Frac,

@@ -20,14 +20,14 @@ use road_types::Road;
 use std::alloc::{AllocError, Global};
 
 /// A search under way: the tree so far, and the best plan that was found.
-#[derive(Debug, Drop)]
+#[derive(Drop)]
 pub struct Search {
     pub work: Work,
     pub best: Option<Best>,
 }
 
 /// A search that is finished, and its number of nodes.
-#[derive(Debug, Drop)]
+#[derive(Drop)]
 pub struct Finished {
     pub search: Search,
     pub count: usize,
