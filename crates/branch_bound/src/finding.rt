@@ -43,8 +43,10 @@ pub fn search(alloc: Global, road: &Road) -> Result<Found, AllocError>
     ensures { IfOk result (IsFound road.now) }
 {
     let finished = grow(alloc, road)?;
-    let bound = least_bound(alloc, &finished.search.work)?;
-    finish(alloc, road, finished, bound)
+    match least_bound(alloc, &finished.search.work) {
+        Ok(bound) => finish(alloc, road, finished, bound),
+        Err(error) => Err(error),
+    }
 }
 
 /// The certificate and the notes of a search that is finished.

@@ -121,9 +121,21 @@ pub(crate) fn grow(alloc: Global, road: &Road) -> Result<Finished, AllocError>
     requires accepted { road_fault road.now ≡ None }
     ensures { IfOk result (λ finished. IsFinishedSearch road.now finished) }
 {
-    let mut search = begin(alloc, road)?;
-    let count = grow_on(alloc, road, &mut search)?;
-    Ok(Finished { search, count })
+    let search = begin(alloc, road)?;
+    grow_whole(alloc, road, search)
+}
+
+/// A search that has begun, once it is finished.
+fn grow_whole(alloc: Global, road: &Road, mut search: Search) -> Result<Finished, AllocError>
+    requires accepted { road_fault road.now ≡ None }
+    requires search { IsSearch road.now search }
+    requires begun { node_total (grown_of search.work) ≡ 1 }
+    ensures { IfOk result (λ finished. IsFinishedSearch road.now finished) }
+{
+    match grow_on(alloc, road, &mut search) {
+        Ok(count) => Ok(Finished { search, count }),
+        Err(error) => Err(error),
+    }
 }
 
 /// Grows a search that has begun until no two more nodes may be made, or each waiting leaf's bound reaches the cost of the best

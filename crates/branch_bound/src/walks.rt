@@ -1,7 +1,7 @@
 // Walks over the tree while it grows.
 ghost use Rattle.std.specs.Prelude.{◌≡◌, ◌+◌, ◌<◌, ◌≤◌, ◌^◌, ◌++◌, Some, OnOk};
 ghost use Rattle.best_first.specs.inside.Covers.{open_keys};
-ghost use Rattle.branch_bound.specs.inside.Grown.{grown_of, keys_of, waiting_count, waiting_at, parted_at, fractional_note, nodes_note};
+ghost use Rattle.branch_bound.specs.inside.Grown.{grown_of, keys_of, waiting_count, waiting_at, parted_at, proved_key, grown_fork, fractional_note, nodes_note};
 
 use crate::notes::NodeNote;
 use crate::work::{Optimum, Waiting, Work};
@@ -107,13 +107,7 @@ fn part_at(alloc: Global, work: Work, at: usize, one: NodeBox<Work>, two: NodeBo
     ensures { grown_of result ≡ parted_at (grown_of work) at (grown_of one) (grown_of two) }
 {
     match work {
-        Work::Waiting { leaf } => Work::Parted {
-            split: leaf.split,
-            key: (leaf.proved.value, leaf.proved.scale),
-            note: fractional_note(leaf.optimum),
-            first: one,
-            second: two,
-        },
+        Work::Waiting { leaf } => parted(leaf, one, two),
         Work::Parted {
             split,
             note,
@@ -124,7 +118,7 @@ fn part_at(alloc: Global, work: Work, at: usize, one: NodeBox<Work>, two: NodeBo
             let before = waiting_count(first.get());
             if at < before {
                 let old = first.replace(nothing(alloc));
-                first.replace(part_at(alloc, old, at, one, two));
+                let first = put_back(first, part_at(alloc, old, at, one, two));
                 Work::Parted {
                     split,
                     note,
@@ -134,7 +128,7 @@ fn part_at(alloc: Global, work: Work, at: usize, one: NodeBox<Work>, two: NodeBo
                 }
             } else {
                 let old = second.replace(nothing(alloc));
-                second.replace(part_at(alloc, old, at - before, one, two));
+                let second = put_back(second, part_at(alloc, old, at - before, one, two));
                 Work::Parted {
                     split,
                     note,
@@ -146,6 +140,27 @@ fn part_at(alloc: Global, work: Work, at: usize, one: NodeBox<Work>, two: NodeBo
         }
         work => work,
     }
+}
+
+/// A waiting leaf, split into two others.
+fn parted(leaf: Waiting, one: NodeBox<Work>, two: NodeBox<Work>) -> Work
+    ensures { grown_of result ≡ grown_fork leaf.split (fractional_note leaf.optimum) (proved_key leaf.proved) (grown_of one) (grown_of two) }
+{
+    Work::Parted {
+        split: leaf.split,
+        key: (leaf.proved.value, leaf.proved.scale),
+        note: fractional_note(leaf.optimum),
+        first: one,
+        second: two,
+    }
+}
+
+/// A place with another tree in it.
+fn put_back(mut place: NodeBox<Work>, work: Work) -> NodeBox<Work>
+    ensures { result ≡ work }
+{
+    place.replace(work);
+    place
 }
 
 /// A tree that stands in a place for a moment. It takes no memory.
