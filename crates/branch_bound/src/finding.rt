@@ -45,7 +45,11 @@ pub fn search(alloc: Global, road: &Road) -> Result<Found, AllocError>
     let finished = grow(alloc, road)?;
     match least_bound(alloc, &finished.search.work) {
         Ok(bound) => finish(alloc, road, finished, bound),
-        Err(error) => Err(error),
+        Err(error) => {
+            // Dropped by name, which is one step in the proof.
+            drop(finished);
+            Err(error)
+        }
     }
 }
 

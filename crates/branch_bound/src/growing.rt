@@ -134,7 +134,11 @@ fn grow_whole(alloc: Global, road: &Road, mut search: Search) -> Result<Finished
 {
     match grow_on(alloc, road, &mut search) {
         Ok(count) => Ok(Finished { search, count }),
-        Err(error) => Err(error),
+        Err(error) => {
+            // Dropped by name, which is one step in the proof.
+            drop(search);
+            Err(error)
+        }
     }
 }
 

@@ -98,7 +98,7 @@ pub(crate) fn part_leaf(
     ensures { grown_of work.new ≡ parted_at (grown_of work.old) at (grown_of one) (grown_of two) }
 {
     let old = mem::replace(work, nothing(alloc));
-    *work = part_at(alloc, old, at, one, two);
+    drop(mem::replace(work, part_at(alloc, old, at, one, two)));
 }
 
 /// The tree with the waiting leaf of a number split into two others.
@@ -159,7 +159,7 @@ fn parted(leaf: Waiting, one: NodeBox<Work>, two: NodeBox<Work>) -> Work
 fn put_back(mut place: NodeBox<Work>, work: Work) -> NodeBox<Work>
     ensures { result ≡ work }
 {
-    place.replace(work);
+    drop(place.replace(work));
     place
 }
 

@@ -1,4 +1,4 @@
-use Rattle.std.proofs.Common.{◌≡◌, Option, List, refl, subst}
+use Rattle.std.proofs.Common.{◌≡◌, Option, refl, subst}
 use Rattle.numbers.specs.Fractions.{Fraction}
 use Rattle.cert_tree.specs.Trees.{box_tree_of}
 use Rattle.branch_bound.specs.Noted.{tree_of, notes_of}
