@@ -69,17 +69,22 @@ fn finish(
     let Finished { search, count } = finished;
     let Search { work, best } = search;
     let priced = apart(best);
-    let settled = settle_whole(alloc, work, &priced.cost)?;
-    Ok(Found {
-        cert: Cert {
-            plan: priced.plan,
-            cost: priced.cost,
-            bound,
-            tree: settled.tree,
-        },
-        count,
-        notes: settled.notes,
-    })
+    match settle_whole(alloc, work, &priced.cost) {
+        Ok(settled) => Ok(Found {
+            cert: Cert {
+                plan: priced.plan,
+                cost: priced.cost,
+                bound,
+                tree: settled.tree,
+            },
+            count,
+            notes: settled.notes,
+        }),
+        Err(error) => {
+            drop(priced);
+            Err(error)
+        }
+    }
 }
 
 /// A tree whose leaves are closed or left open, and the notes of its nodes.

@@ -112,8 +112,13 @@ fn begin(alloc: Global, road: &Road) -> Result<Search, AllocError>
 {
     let range = root_box(alloc, road)?;
     let mut best = None;
-    let work = solve_box(alloc, road, range, &mut best)?;
-    Ok(Search { work, best })
+    match solve_box(alloc, road, range, &mut best) {
+        Ok(work) => Ok(Search { work, best }),
+        Err(error) => {
+            drop(best);
+            Err(error)
+        }
+    }
 }
 
 /// A search that is finished.

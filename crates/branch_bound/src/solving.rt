@@ -381,7 +381,10 @@ fn whole_leaf(optimum: Optimum, proved: Proved, found: Best, best: &mut Option<B
 {
     *best = Some(cheaper(found, best.take()));
     match past_limit(optimum.scale, optimum.mults.as_slice()) {
-        None => done_leaf(proved),
+        None => {
+            drop(optimum);
+            done_leaf(proved)
+        }
         Some(value) => limit_leaf(optimum, proved, value),
     }
 }
@@ -400,8 +403,10 @@ fn cheaper(found: Best, old: Option<Best>) -> Best
         (old.cost.num(), old.cost.den()),
         (found.cost.num(), found.cost.den()),
     ) {
+        drop(found);
         old
     } else {
+        drop(old);
         found
     }
 }
