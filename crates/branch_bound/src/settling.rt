@@ -32,7 +32,10 @@ pub(crate) fn settle(
             notes.push(NodeNote::Dead)?;
             Ok(Tree::Dead { mults })
         }
-        Work::Whole { proved } => noted_leaf(proved, None, NodeNote::Closed, notes),
+        Work::Whole { proved } => {
+            notes.push(NodeNote::Closed)?;
+            Ok(low_leaf(proved, None))
+        }
         Work::Stopped { proved, note } => settle_stopped(proved, note, cost, notes),
         Work::Waiting { leaf } => settle_waiting(leaf, cost, notes),
         Work::Parted {

@@ -272,8 +272,13 @@ fn leaf_of_optimum(
         let den = optimum.den;
         return Ok(limit_leaf(optimum, proved, den));
     }
-    let found = plan_found(alloc, road, &range, optimum.den, optimum.point.as_slice())?;
-    Ok(whole_leaf(optimum, proved, found, best))
+    match plan_found(alloc, road, &range, optimum.den, optimum.point.as_slice()) {
+        Ok(found) => Ok(whole_leaf(optimum, proved, found, best)),
+        Err(error) => {
+            drop(optimum);
+            Err(error)
+        }
+    }
 }
 
 /// A leaf that waits to be split.

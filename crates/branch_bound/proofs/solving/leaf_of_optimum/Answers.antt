@@ -32,8 +32,8 @@ plan_found-requires-clause-den c =
     let small = simp to_z-of_z at c.if-optimum-gt-GREATEST_SCALE.false in
     simp to_z-of_z (den_scale c.args.optimum.den c.requires.optimum.own_optimum.den_from_one (λ past. omega (arith, ints, small, past)))
 
-pub returns : goal.returns
-returns c =
+pub returns-in-Ok : goal.returns-in-Ok
+returns-in-Ok c =
     let den : FitsSigned w128 c.args.optimum.den = search rules in
     let road = c.args.road.now in
     let program = box_program road c.args.range in
@@ -41,8 +41,8 @@ returns c =
     let own = subst (λ (point : List ℤ). AsksForNothing road c.args.optimum.den point) c.as_slice.ensures none in
     let small = simp to_z-of_z at c.if-optimum-gt-GREATEST_SCALE.false in
     let scale : IsScale c.args.optimum.den = den_scale c.args.optimum.den c.requires.optimum.own_optimum.den_from_one (λ past. omega (arith, ints, small, past)) in
-    let priced : IsPricedBest road program c.args.optimum.den c.as_slice-2.result.now c.in_ok-found.found = simp to_z-of_z at c.in_ok-found.ensures in
-    whole_solved road c.args.range c.args.optimum c.args.proved c.in_ok-found.found c.args.best.now _ c.requires.optimum
+    let priced : IsPricedBest road program c.args.optimum.den c.as_slice-2.result.now c.in-Ok.found = simp to_z-of_z at c.in-Ok.ensures in
+    whole_solved road c.args.range c.args.optimum c.args.proved c.in-Ok.found c.args.best.now _ c.requires.optimum
     own.whole (own.exact scale.at_most)
-    (subst (λ (point : List ℤ). IsPricedBest road program c.args.optimum.den point c.in_ok-found.found) c.as_slice-2.ensures priced)
+    (subst (λ (point : List ℤ). IsPricedBest road program c.args.optimum.den point c.in-Ok.found) c.as_slice-2.ensures priced)
     c.requires.best c.whole_leaf.ensures
