@@ -115,7 +115,7 @@ fn solve_end(
             ray,
             scale,
             mults,
-        } => { empty_leaf(alloc, road, milp, trail, ray, scale, mults) }
+        } => empty_leaf(alloc, road, milp, trail, ray, scale, mults),
         LpEnd::Pivots {
             trail,
             scale,
