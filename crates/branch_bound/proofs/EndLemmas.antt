@@ -25,7 +25,7 @@ use Rattle.branch_bound.specs.inside.Solving.{AreProving, IsStoppedLeaf, IsStopW
 use Rattle.branch_bound.specs.declared.notes.NodeNote.{NodeNote}
 use Rattle.branch_bound.specs.declared.notes.NodeNote.TheVariants.{Pivots, Wide, Limit}
 use Rattle.branch_bound.specs.declared.best.Best.{Best}
-use Rattle.branch_bound.specs.declared.best.Solved.{Solved}
+use Rattle.branch_bound.specs.inside.Solved.{Solved}
 use Rattle.branch_bound.specs.declared.work.Proved.{Proved}
 use Rattle.branch_bound.specs.declared.work.Optimum.{Optimum}
 use Rattle.branch_bound.specs.declared.work.Waiting.{Waiting}

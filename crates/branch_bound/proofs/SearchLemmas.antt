@@ -20,8 +20,7 @@ use Rattle.branch_bound.specs.declared.growing.Search.{Search}
 use Rattle.branch_bound.specs.declared.growing.Finished.{Finished}
 use Rattle.branch_bound.specs.declared.work.Work.{Work}
 use Rattle.branch_bound.specs.declared.work.Proved.{Proved}
-use Rattle.branch_bound.specs.declared.best.Solved.{Solved}
-use Rattle.branch_bound.specs.declared.growing.SolvedParts.{SolvedParts}
+use Rattle.branch_bound.specs.inside.Solved.{Solved, SolvedParts}
 use Rattle.branch_bound.proofs.BetterLemmas.{good_along, better_along}
 use Rattle.branch_bound.proofs.GrowingLemmas.{at_either, good_parted, ordered_parted, total_parted, waiting_found, open_count}
 use Rattle.best_first.specs.inside.Covers.{IsOrderedTree, IsAtMostOpen, open_keys}

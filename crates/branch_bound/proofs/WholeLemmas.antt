@@ -26,7 +26,7 @@ use Rattle.branch_bound.specs.inside.Searches.{best_cost, IsBest, IsSolvedBox}
 use Rattle.branch_bound.specs.inside.Solving.{IsLeafOfBox, IsStopWith, IsOptimumOf, IsCheaper, IsPricedBest, IsWholeLeaf}
 use Rattle.branch_bound.specs.declared.notes.NodeNote.TheVariants.{Limit}
 use Rattle.branch_bound.specs.declared.best.Best.{Best}
-use Rattle.branch_bound.specs.declared.best.Solved.{Solved}
+use Rattle.branch_bound.specs.inside.Solved.{Solved}
 use Rattle.branch_bound.specs.declared.work.Proved.{Proved}
 use Rattle.branch_bound.specs.declared.work.Optimum.{Optimum}
 use Rattle.branch_bound.proofs.SolvingLemmas.{proved_is, stop_good, leaf_from, positive_den}

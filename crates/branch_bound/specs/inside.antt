@@ -1,6 +1,7 @@
 pub mod Choices
 pub mod Grown
 pub mod Better
+pub mod Solved
 pub mod Searches
 pub mod Proving
 pub mod Splitting

@@ -5,7 +5,9 @@ ghost use Rattle.numbers.specs.Fractions.{HasValue, IsLowest};
 ghost use Rattle.road_types.specs.Faults.{road_fault};
 ghost use Rattle.best_first.specs.Keys.{IsKey};
 ghost use Rattle.branch_bound.specs.Found.{IsFound};
-ghost use Rattle.branch_bound.specs.inside.Grown.{grown_of, low_keys, AreKeys};
+ghost use Rattle.cert_tree.specs.Trees.{box_tree_of};
+ghost use Rattle.branch_bound.specs.Noted.{tree_of, notes_of};
+ghost use Rattle.branch_bound.specs.inside.Grown.{grown_of, low_keys, noted_of, AreKeys, IsCostKey};
 ghost use Rattle.branch_bound.specs.inside.Least.{IsLeastKey, IsLeastFraction};
 ghost use Rattle.branch_bound.specs.inside.Searches.{best_cost, best_plan, IsFinishedSearch};
 
@@ -16,6 +18,7 @@ use crate::settling::{push_low_keys, settle};
 use crate::work::Work;
 use best_first::pick;
 use cert_text::Cert;
+use cert_tree::Tree;
 use numbers::Frac;
 use plan_rules::Plan;
 use road_types::{Listed, Road};
@@ -34,41 +37,80 @@ pub struct Found {
 
 /// Splits the box of all plans, best bound first, until the bound meets the cost of the best plan or the road's budget of nodes is
 /// spent. The one error is want of memory.
+#[tactic(auto, using(crate::proofs::FoundLaw::finished_keys))]
 pub fn search(alloc: Global, road: &Road) -> Result<Found, AllocError>
     requires { road_fault road.now ≡ None }
     ensures { IfOk result (IsFound road.now) }
 {
     let finished = grow(alloc, road)?;
-    finish(alloc, road, finished)
+    match least_bound(alloc, &finished.search.work) {
+        Ok(bound) => finish(alloc, road, finished, bound),
+        Err(error) => {
+            // Dropped by name, which is one step in the proof.
+            drop(finished);
+            Err(error)
+        }
+    }
 }
 
 /// The certificate and the notes of a search that is finished.
 #[tactic(auto, using(crate::proofs::FoundLaw::found_is, crate::proofs::FoundLaw::finished_keys, crate::proofs::FoundLaw::finished_cost))]
-fn finish(alloc: Global, road: &Road, finished: Finished) -> Result<Found, AllocError>
+fn finish(
+    alloc: Global,
+    road: &Road,
+    finished: Finished,
+    bound: Option<Frac>,
+) -> Result<Found, AllocError>
     requires accepted { road_fault road.now ≡ None }
     requires finished { IsFinishedSearch road.now finished }
+    requires bound { IsLeastKey (grown_of finished.search.work) bound }
     ensures { IfOk result (IsFound road.now) }
 {
     let Finished { search, count } = finished;
     let Search { work, best } = search;
-    let bound = least_bound(alloc, &work)?;
     let priced = apart(best);
+    match settle_whole(alloc, work, &priced.cost) {
+        Ok(settled) => Ok(Found {
+            cert: Cert {
+                plan: priced.plan,
+                cost: priced.cost,
+                bound,
+                tree: settled.tree,
+            },
+            count,
+            notes: settled.notes,
+        }),
+        Err(error) => {
+            drop(priced);
+            Err(error)
+        }
+    }
+}
+
+/// A tree whose leaves are closed or left open, and the notes of its nodes.
+#[derive(Drop)]
+struct Settled {
+    tree: Tree,
+    notes: Listed<NodeNote>,
+}
+
+/// The tree of a search with its leaves closed or left open, and its notes.
+fn settle_whole(alloc: Global, work: Work, cost: &Option<Frac>) -> Result<Settled, AllocError>
+    requires keys { AreKeys (grown_of work) }
+    requires cost { IsCostKey cost.now }
+    ensures tree { IfOk result (λ settled. box_tree_of settled.tree ≡ tree_of (noted_of cost.now (grown_of work))) }
+    ensures notes { IfOk result (λ settled. settled.notes ≡ notes_of (noted_of cost.now (grown_of work))) }
+{
     let mut notes = Vec::new(alloc);
-    let tree = settle(alloc, work, &priced.cost, &mut notes)?;
-    Ok(Found {
-        cert: Cert {
-            plan: priced.plan,
-            cost: priced.cost,
-            bound,
-            tree,
-        },
-        count,
+    let tree = settle(alloc, work, cost, &mut notes)?;
+    Ok(Settled {
+        tree,
         notes: Listed::new(notes),
     })
 }
 
 /// A plan and its cost, or neither.
-#[derive(Debug, Drop)]
+#[derive(Drop)]
 struct Priced {
     plan: Option<Plan>,
     cost: Option<Frac>,

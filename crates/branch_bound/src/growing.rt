@@ -1,5 +1,5 @@
 // The search.
-ghost use Rattle.std.specs.Prelude.{◌≡◌, ◌↔◌, ◌+◌, ◌≤◌, None, IfOk, IsTrue, MatchOption, pos};
+ghost use Rattle.std.specs.Prelude.{◌≡◌, ◌↔◌, ◌+◌, ◌≤◌, None, IfOk, OnOk, IsTrue, MatchOption, pos};
 ghost use Rattle.cert_tree.specs.Soundness.{IsAtLeastBound};
 ghost use Rattle.road_types.specs.Faults.{road_fault};
 ghost use Rattle.milp_builder.specs.Boxes.{IsBoxOf};
@@ -11,7 +11,7 @@ ghost use Rattle.branch_bound.specs.inside.Searches.{best_cost, IsBest, IsSolved
 
 use crate::best::Best;
 use crate::solving::solve_box;
-use crate::walks::{part_at, push_keys, waiting_at};
+use crate::walks::{part_leaf, push_keys, waiting_at};
 use crate::work::Work;
 use best_first::{is_at_most, pick};
 use milp_builder::{BoxRange, parts, root_box};
@@ -20,49 +20,52 @@ use road_types::Road;
 use std::alloc::{AllocError, Global};
 
 /// A search under way: the tree so far, and the best plan that was found.
-#[derive(Debug, Drop)]
+#[derive(Drop)]
 pub struct Search {
     pub work: Work,
     pub best: Option<Best>,
 }
 
 /// A search that is finished, and its number of nodes.
-#[derive(Debug, Drop)]
+#[derive(Drop)]
 pub struct Finished {
     pub search: Search,
     pub count: usize,
 }
 
-/// The leaves of both parts of a box, and the best plan after them.
-#[derive(Debug, Drop)]
-pub struct SolvedParts {
-    pub first: NodeBox<Work>,
-    pub second: NodeBox<Work>,
-    pub best: Option<Best>,
-}
-
-/// Solves both parts of a box.
-#[tactic(auto, using(crate::proofs::SearchLemmas::both_solved))]
+/// Solves both parts of a box: their leaves, each in a place of its own.
 fn solve_parts(
     alloc: Global,
     road: &Road,
     first: BoxRange,
     second: BoxRange,
-    best: Option<Best>,
-) -> Result<SolvedParts, AllocError>
+    best: &mut Option<Best>,
+) -> Result<(NodeBox<Work>, NodeBox<Work>), AllocError>
     requires accepted { road_fault road.now ≡ None }
     requires first { IsBoxOf road.now first }
     requires second { IsBoxOf road.now second }
-    requires best { IsBest road.now best }
-    ensures { IfOk result (λ solved. AreSolved road.now best first second solved) }
+    requires best { IsBest road.now best.old }
+    ensures { IfOk result (λ leaves. AreSolved road.now best.old first second (record { first = leaves.0; second = leaves.1; best = best.new })) }
 {
-    let one = solve_box(alloc, road, first, best)?;
-    let two = solve_box(alloc, road, second, one.best)?;
-    Ok(SolvedParts {
-        first: NodeBox::new(alloc, one.leaf)?,
-        second: NodeBox::new(alloc, two.leaf)?,
-        best: two.best,
-    })
+    let one = solve_part(alloc, road, first, best)?;
+    let two = solve_part(alloc, road, second, best)?;
+    Ok((one, two))
+}
+
+/// Solves a part of a box: its leaf, in a place of its own.
+fn solve_part(
+    alloc: Global,
+    road: &Road,
+    range: BoxRange,
+    best: &mut Option<Best>,
+) -> Result<NodeBox<Work>, AllocError>
+    requires accepted { road_fault road.now ≡ None }
+    requires fits { IsBoxOf road.now range }
+    requires best { IsBest road.now best.old }
+    ensures { IfOk result (λ leaf. IsSolvedBox road.now best.old range (record { leaf = leaf; best = best.new })) }
+{
+    let leaf = solve_box(alloc, road, range, best)?;
+    Ok(NodeBox::new(alloc, leaf)?)
 }
 
 /// The parts of the waiting leaf that is split next.
@@ -87,56 +90,82 @@ fn parts_at(
 }
 
 /// Splits the waiting leaf that is next.
-#[tactic(auto, using(crate::proofs::SearchLemmas::search_after, crate::proofs::SearchLemmas::total_after))]
-fn expand(alloc: Global, road: &Road, search: Search, at: usize) -> Result<Search, AllocError>
+fn expand(alloc: Global, road: &Road, search: &mut Search, at: usize) -> Result<(), AllocError>
     requires accepted { road_fault road.now ≡ None }
-    requires search { IsSearch road.now search }
-    requires few { node_total (grown_of search.work) ≤ 4999 }
-    requires next { IsNext (grown_of search.work) at }
-    ensures search { IfOk result (λ after. IsSearch road.now after) }
-    ensures nodes { IfOk result (λ after. node_total (grown_of after.work) ≡ node_total (grown_of search.work) + 2) }
+    requires search { IsSearch road.now search.old }
+    requires few { node_total (grown_of search.old.work) ≤ 4999 }
+    requires next { IsNext (grown_of search.old.work) at }
+    ensures search { OnOk result (IsSearch road.now search.new) }
+    ensures nodes { OnOk result (node_total (grown_of search.new.work) ≡ node_total (grown_of search.old.work) + 2) }
 {
-    let (first, second) = parts_at(alloc, road, &search, at)?;
-    let Search { work, best } = search;
-    let solved = solve_parts(alloc, road, first, second, best)?;
-    Ok(Search {
-        work: part_at(alloc, work, at, solved.first, solved.second),
-        best: solved.best,
-    })
+    let (first, second) = parts_at(alloc, road, search, at)?;
+    let (one, two) = solve_parts(alloc, road, first, second, &mut search.best)?;
+    part_leaf(alloc, &mut search.work, at, one, two);
+    Ok(())
 }
 
 /// A search that has begun: the box of all plans, solved.
-#[tactic(auto, using(crate::proofs::SearchLemmas::begun, crate::proofs::SearchLemmas::begun_total))]
 fn begin(alloc: Global, road: &Road) -> Result<Search, AllocError>
     requires accepted { road_fault road.now ≡ None }
     ensures search { IfOk result (λ search. IsSearch road.now search) }
     ensures nodes { IfOk result (λ search. node_total (grown_of search.work) ≡ 1) }
 {
     let range = root_box(alloc, road)?;
-    let solved = solve_box(alloc, road, range, None)?;
-    Ok(Search {
-        work: solved.leaf,
-        best: solved.best,
-    })
+    let mut best = None;
+    match solve_box(alloc, road, range, &mut best) {
+        Ok(work) => Ok(Search { work, best }),
+        Err(error) => {
+            drop(best);
+            Err(error)
+        }
+    }
 }
 
-/// A search that is finished: no two more nodes may be made, or each waiting leaf's bound reaches the cost of the best plan.
-#[tactic(auto, using(crate::proofs::SearchLemmas::finished_budget, crate::proofs::SearchLemmas::finished_reach, crate::proofs::SearchLemmas::search_keys, crate::proofs::SearchLemmas::search_cost))]
+/// A search that is finished.
 pub(crate) fn grow(alloc: Global, road: &Road) -> Result<Finished, AllocError>
     requires accepted { road_fault road.now ≡ None }
     ensures { IfOk result (λ finished. IsFinishedSearch road.now finished) }
 {
-    let mut search = begin(alloc, road)?;
+    let search = begin(alloc, road)?;
+    grow_whole(alloc, road, search)
+}
+
+/// A search that has begun, once it is finished.
+fn grow_whole(alloc: Global, road: &Road, mut search: Search) -> Result<Finished, AllocError>
+    requires accepted { road_fault road.now ≡ None }
+    requires search { IsSearch road.now search }
+    requires begun { node_total (grown_of search.work) ≡ 1 }
+    ensures { IfOk result (λ finished. IsFinishedSearch road.now finished) }
+{
+    match grow_on(alloc, road, &mut search) {
+        Ok(count) => Ok(Finished { search, count }),
+        Err(error) => {
+            // Dropped by name, which is one step in the proof.
+            drop(search);
+            Err(error)
+        }
+    }
+}
+
+/// Grows a search that has begun until no two more nodes may be made, or each waiting leaf's bound reaches the cost of the best
+/// plan; gives its number of nodes.
+#[tactic(auto, using(crate::proofs::SearchLemmas::finished_budget, crate::proofs::SearchLemmas::finished_reach, crate::proofs::SearchLemmas::search_keys, crate::proofs::SearchLemmas::search_cost))]
+fn grow_on(alloc: Global, road: &Road, search: &mut Search) -> Result<usize, AllocError>
+    requires accepted { road_fault road.now ≡ None }
+    requires search { IsSearch road.now search.old }
+    requires begun { node_total (grown_of search.old.work) ≡ 1 }
+    ensures { IfOk result (λ count. IsFinishedSearch road.now (record { search = search.new; count = count })) }
+{
     let mut count = 1;
     let most = node_budget(road);
     while count + 2 <= most {
-        let Some(at) = next_leaf(alloc, &search)? else {
-            return Ok(Finished { search, count });
+        let Some(at) = next_leaf(alloc, search)? else {
+            return Ok(count);
         };
-        search = expand(alloc, road, search, at)?;
+        expand(alloc, road, search, at)?;
         count += 2;
     }
-    Ok(Finished { search, count })
+    Ok(count)
 }
 
 /// The greatest number of nodes.

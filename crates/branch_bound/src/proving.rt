@@ -16,7 +16,7 @@ use safe_bounds::{Scratch, leaf_value, narrow};
 use std::alloc::{AllocError, Global};
 
 /// A scale and multipliers within the limit.
-#[derive(Debug, Drop)]
+#[derive(Drop)]
 pub struct Narrow {
     pub scale: i128,
     pub mults: Vec<i128>,

@@ -102,12 +102,25 @@ fn close_or_leave(
     ensures notes { OnOk result (notes.new.items ≡ notes.old.items ++ notes_of (closed_or cost.now proved cause note)) }
 {
     if reaches(&proved, cost) {
-        notes.push(NodeNote::Closed)?;
-        Ok(low_leaf(proved, None))
+        drop(note);
+        noted_leaf(proved, None, NodeNote::Closed, notes)
     } else {
-        notes.push(note)?;
-        Ok(low_leaf(proved, Some(cause)))
+        noted_leaf(proved, Some(cause), note, notes)
     }
+}
+
+/// A leaf whose note is put behind the others.
+fn noted_leaf(
+    proved: Proved,
+    cause: Option<Why>,
+    note: NodeNote,
+    notes: &mut Vec<NodeNote>,
+) -> Result<Tree, AllocError>
+    ensures tree { IfOk result (λ tree. box_tree_of tree ≡ low proved.scale proved.mults cause) }
+    ensures notes { OnOk result (notes.new.items ≡ notes.old.items ++ (note ∷ [])) }
+{
+    notes.push(note)?;
+    Ok(low_leaf(proved, cause))
 }
 
 /// A leaf with what is proved of its box, and the cause for which it was left open, if it was.

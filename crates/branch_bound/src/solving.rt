@@ -16,12 +16,13 @@ ghost use Rattle.simplex.specs.Ends.{IsEnd, IsDead, IsOptimum, HasNumbersWithin,
 ghost use Rattle.branch_bound.specs.Optima.{exchange_budget};
 ghost use Rattle.branch_bound.specs.inside.Asking.{AsksForNothing};
 ghost use Rattle.branch_bound.specs.inside.Grown.{grown_of, dead_leaf, whole_leaf, waiting_leaf, stopped_leaf, IsCostKey};
+ghost use Rattle.branch_bound.specs.inside.Proving.{IsProvedOn};
 ghost use Rattle.branch_bound.specs.inside.Searches.{best_cost, IsBest, IsSolvedBox};
 ghost use Rattle.branch_bound.specs.inside.Solving.{AreProving, IsStoppedLeaf, IsEmptyLeaf, AreDeadMults, IsOptimumOf, IsWholeLeaf, IsCheaper, IsPricedBest};
 ghost use Rattle.branch_bound.specs.declared.notes.NodeNote.TheVariants.{Limit};
 
 use crate::asking::asked_split;
-use crate::best::{Best, Solved};
+use crate::best::Best;
 use crate::notes::NodeNote;
 use crate::proving::{greatest_magnitude, narrowed, past_limit, prove, value_on, written};
 use crate::work::{Optimum, Proved, Waiting, Work};
@@ -36,17 +37,17 @@ use simplex::{Lp, LpEnd, solve_either};
 use std::alloc::{AllocError, Global};
 use tableau::Exchange;
 
-/// Solves a box: its leaf, and the best plan after it.
+/// Solves a box: its leaf. A plan that is found and cheaper is the best one then.
 pub(crate) fn solve_box(
     alloc: Global,
     road: &Road,
     range: BoxRange,
-    best: Option<Best>,
-) -> Result<Solved, AllocError>
+    best: &mut Option<Best>,
+) -> Result<Work, AllocError>
     requires accepted { road_fault road.now ≡ None }
     requires fits { IsBoxOf road.now range }
-    requires best { IsBest road.now best }
-    ensures { IfOk result (λ solved. IsSolvedBox road.now best range solved) }
+    requires best { IsBest road.now best.old }
+    ensures { IfOk result (λ leaf. IsSolvedBox road.now best.old range (record { leaf = leaf; best = best.new })) }
 {
     let milp = build(alloc, road, &range)?;
     let end = end_of(alloc, road, &milp)?;
@@ -74,7 +75,7 @@ fn exchange_budget(road: &Road) -> u32
     road.pivots.unsigned_abs() as u32
 }
 
-/// The leaf that an end gives, and the best plan after it.
+/// The leaf that an end gives.
 #[tactic(auto, using(crate::proofs::EndLemmas::spent_proving, crate::proofs::EndLemmas::wide_proving, crate::proofs::EndLemmas::optimum_proving, crate::proofs::EndLemmas::spent_solved, crate::proofs::EndLemmas::wide_solved, crate::proofs::EndLemmas::empty_solved))]
 fn solve_end(
     alloc: Global,
@@ -82,15 +83,15 @@ fn solve_end(
     range: BoxRange,
     milp: &Milp,
     end: LpEnd,
-    best: Option<Best>,
-) -> Result<Solved, AllocError>
+    best: &mut Option<Best>,
+) -> Result<Work, AllocError>
     requires accepted { road_fault road.now ≡ None }
     requires fits { IsBoxOf road.now range }
     requires program { milp.now ≡ box_program road.now range }
     requires end { IsEnd (2 ^ 127 - 1) milp.now (exchange_budget road.now) end }
     requires numbers { HasNumbersWithin (2 ^ 127 - 1) end }
-    requires best { IsBest road.now best }
-    ensures { IfOk result (λ solved. IsSolvedBox road.now best range solved) }
+    requires best { IsBest road.now best.old }
+    ensures { IfOk result (λ leaf. IsSolvedBox road.now best.old range (record { leaf = leaf; best = best.new })) }
 {
     match end {
         LpEnd::Best {
@@ -114,10 +115,7 @@ fn solve_end(
             ray,
             scale,
             mults,
-        } => {
-            let leaf = empty_leaf(alloc, road, milp, trail, ray, scale, mults)?;
-            Ok(Solved { leaf, best })
-        }
+        } => empty_leaf(alloc, road, milp, trail, ray, scale, mults),
         LpEnd::Pivots {
             trail,
             scale,
@@ -126,8 +124,7 @@ fn solve_end(
             let note = NodeNote::Pivots {
                 trail: Listed::new(trail),
             };
-            let leaf = stopped_leaf(alloc, milp, note, scale, mults)?;
-            Ok(Solved { leaf, best })
+            stopped_leaf(alloc, milp, note, scale, mults)
         }
         LpEnd::Wide {
             trail,
@@ -139,8 +136,7 @@ fn solve_end(
                 trail: Listed::new(trail),
                 op,
             };
-            let leaf = stopped_leaf(alloc, milp, note, scale, mults)?;
-            Ok(Solved { leaf, best })
+            stopped_leaf(alloc, milp, note, scale, mults)
         }
     }
 }
@@ -214,26 +210,34 @@ fn from_one(x: i128) -> i128
     if x < 1 { 1 } else { x }
 }
 
-/// The leaf of a box with an optimum, and the best plan after it.
+/// The leaf of a box with an optimum.
 fn solve_optimum(
     alloc: Global,
     road: &Road,
     range: BoxRange,
     milp: &Milp,
     optimum: Optimum,
-    best: Option<Best>,
-) -> Result<Solved, AllocError>
+    best: &mut Option<Best>,
+) -> Result<Work, AllocError>
     requires accepted { road_fault road.now ≡ None }
     requires fits { IsBoxOf road.now range }
     requires program { milp.now ≡ box_program road.now range }
     requires optimum { IsOptimum (box_program road.now range) (exchange_budget road.now) optimum.trail optimum.den optimum.point optimum.scale optimum.mults }
     requires numbers { AreProving milp.now optimum.scale optimum.mults }
-    requires best { IsBest road.now best }
-    ensures { IfOk result (λ solved. IsSolvedBox road.now best range solved) }
+    requires best { IsBest road.now best.old }
+    ensures { IfOk result (λ leaf. IsSolvedBox road.now best.old range (record { leaf = leaf; best = best.new })) }
+{
+    let proved = prove_optimum(alloc, milp, &optimum)?;
+    leaf_of_optimum(alloc, road, range, optimum, proved, best)
+}
+
+/// What the multipliers of an optimum prove.
+fn prove_optimum(alloc: Global, milp: &Milp, optimum: &Optimum) -> Result<Proved, AllocError>
+    requires { AreProving milp.now optimum.now.scale optimum.now.mults }
+    ensures { IfOk result (λ proved. IsProvedOn milp.now optimum.now.scale optimum.now.mults proved) }
 {
     let mults = copied(alloc, optimum.mults.as_slice())?;
-    let proved = prove(alloc, milp, optimum.scale, mults)?;
-    leaf_of_optimum(alloc, road, range, optimum, proved, best)
+    prove(alloc, milp, optimum.scale, mults)
 }
 
 /// The numbers in a vector of their own.
@@ -253,25 +257,28 @@ fn leaf_of_optimum(
     range: BoxRange,
     optimum: Optimum,
     proved: Proved,
-    best: Option<Best>,
-) -> Result<Solved, AllocError>
+    best: &mut Option<Best>,
+) -> Result<Work, AllocError>
     requires accepted { road_fault road.now ≡ None }
     requires fits { IsBoxOf road.now range }
     requires optimum { IsOptimumOf road.now range optimum proved }
-    requires best { IsBest road.now best }
-    ensures { IfOk result (λ solved. IsSolvedBox road.now best range solved) }
+    requires best { IsBest road.now best.old }
+    ensures { IfOk result (λ leaf. IsSolvedBox road.now best.old range (record { leaf = leaf; best = best.new })) }
 {
     if let Some(split) = asked_split(road, &range, optimum.den, optimum.point.as_slice()) {
-        let leaf = waiting_leaf(range, split, optimum, proved);
-        return Ok(Solved { leaf, best });
+        return Ok(waiting_leaf(range, split, optimum, proved));
     }
     if optimum.den > GREATEST_SCALE {
         let den = optimum.den;
-        let leaf = limit_leaf(optimum, proved, den);
-        return Ok(Solved { leaf, best });
+        return Ok(limit_leaf(optimum, proved, den));
     }
-    let found = plan_found(alloc, road, &range, optimum.den, optimum.point.as_slice())?;
-    Ok(whole_leaf(optimum, proved, found, best))
+    match plan_found(alloc, road, &range, optimum.den, optimum.point.as_slice()) {
+        Ok(found) => Ok(whole_leaf(optimum, proved, found, best)),
+        Err(error) => {
+            drop(optimum);
+            Err(error)
+        }
+    }
 }
 
 /// A leaf that waits to be split.
@@ -367,26 +374,23 @@ fn cost_of(road: &Road, plan: &Plan) -> i128
     }
 }
 
-/// The leaf of an optimum that is a plan, and the best plan after it: its bound is the plan's cost, unless a number past the
-/// limit had to be narrowed.
+/// The leaf of an optimum that is a plan, which is the best one where it is cheaper: its bound is the plan's cost, unless a number
+/// past the limit had to be narrowed.
 #[tactic(auto, using(crate::proofs::WholeLemmas::whole_is, crate::proofs::WholeLemmas::past_is))]
-fn whole_leaf(optimum: Optimum, proved: Proved, found: Best, best: Option<Best>) -> Solved
+fn whole_leaf(optimum: Optimum, proved: Proved, found: Best, best: &mut Option<Best>) -> Work
     requires scale { pos 1 ≤ℤ optimum.scale }
     requires within { All (λ y. unsigned_abs y < 2 ^ 127) optimum.mults }
     requires found { IsKey (found.cost.num, found.cost.den) }
-    requires best { IsCostKey (best_cost best) }
-    ensures { IsWholeLeaf optimum proved found best result }
+    requires best { IsCostKey (best_cost best.old) }
+    ensures { IsWholeLeaf optimum proved found best.old (record { leaf = result; best = best.new }) }
 {
-    let best = Some(cheaper(found, best));
+    *best = Some(cheaper(found, best.take()));
     match past_limit(optimum.scale, optimum.mults.as_slice()) {
-        None => Solved {
-            leaf: done_leaf(proved),
-            best,
-        },
-        Some(value) => Solved {
-            leaf: limit_leaf(optimum, proved, value),
-            best,
-        },
+        None => {
+            drop(optimum);
+            done_leaf(proved)
+        }
+        Some(value) => limit_leaf(optimum, proved, value),
     }
 }
 
@@ -404,8 +408,10 @@ fn cheaper(found: Best, old: Option<Best>) -> Best
         (old.cost.num(), old.cost.den()),
         (found.cost.num(), found.cost.den()),
     ) {
+        drop(found);
         old
     } else {
+        drop(old);
         found
     }
 }

@@ -75,7 +75,7 @@ fn is_one_of(x: i128, a: i128, b: i128) -> bool
 }
 
 /// A section and by how much its volume misses that of its offset; section 0 where no volume is missed.
-#[derive(Clone, Copy, Debug)]
+#[derive(Clone, Copy)]
 pub struct Worst {
     pub number: usize,
     pub error: u128,

@@ -1,13 +1,14 @@
 // Walks over the tree while it grows.
 ghost use Rattle.std.specs.Prelude.{◌≡◌, ◌+◌, ◌<◌, ◌≤◌, ◌^◌, ◌++◌, Some, OnOk};
 ghost use Rattle.best_first.specs.inside.Covers.{open_keys};
-ghost use Rattle.branch_bound.specs.inside.Grown.{grown_of, keys_of, waiting_count, waiting_at, parted_at, fractional_note, nodes_note};
+ghost use Rattle.branch_bound.specs.inside.Grown.{grown_of, keys_of, waiting_count, waiting_at, parted_at, proved_key, grown_fork, fractional_note, nodes_note};
 
 use crate::notes::NodeNote;
 use crate::work::{Optimum, Waiting, Work};
 use node_box::NodeBox;
 use road_types::Listed;
 use std::alloc::{AllocError, Global};
+use std::mem;
 
 /// The keys of the waiting leaves, in preorder, are put behind the others.
 pub(crate) fn push_keys(work: &Work, keys: &mut Vec<(i128, i128)>) -> Result<(), AllocError>
@@ -85,25 +86,28 @@ pub(crate) fn nodes_note(optimum: Optimum) -> NodeNote
     }
 }
 
-/// The tree with the waiting leaf of a number, counted from 0 in preorder, split into two others. It takes no memory.
-pub(crate) fn part_at(
+/// Splits the waiting leaf of a number, counted from 0 in preorder, into two others. It takes no memory.
+pub(crate) fn part_leaf(
     alloc: Global,
-    work: Work,
+    work: &mut Work,
     at: usize,
     one: NodeBox<Work>,
     two: NodeBox<Work>,
-) -> Work
+)
+    requires count { waiting_count (grown_of work.old) < 2 ^ 32 }
+    ensures { grown_of work.new ≡ parted_at (grown_of work.old) at (grown_of one) (grown_of two) }
+{
+    let old = mem::replace(work, nothing(alloc));
+    drop(mem::replace(work, part_at(alloc, old, at, one, two)));
+}
+
+/// The tree with the waiting leaf of a number split into two others.
+fn part_at(alloc: Global, work: Work, at: usize, one: NodeBox<Work>, two: NodeBox<Work>) -> Work
     requires count { waiting_count (grown_of work) < 2 ^ 32 }
     ensures { grown_of result ≡ parted_at (grown_of work) at (grown_of one) (grown_of two) }
 {
     match work {
-        Work::Waiting { leaf } => Work::Parted {
-            split: leaf.split,
-            key: (leaf.proved.value, leaf.proved.scale),
-            note: fractional_note(leaf.optimum),
-            first: one,
-            second: two,
-        },
+        Work::Waiting { leaf } => parted(leaf, one, two),
         Work::Parted {
             split,
             note,
@@ -114,7 +118,7 @@ pub(crate) fn part_at(
             let before = waiting_count(first.get());
             if at < before {
                 let old = first.replace(nothing(alloc));
-                first.replace(part_at(alloc, old, at, one, two));
+                let first = put_back(first, part_at(alloc, old, at, one, two));
                 Work::Parted {
                     split,
                     note,
@@ -124,7 +128,7 @@ pub(crate) fn part_at(
                 }
             } else {
                 let old = second.replace(nothing(alloc));
-                second.replace(part_at(alloc, old, at - before, one, two));
+                let second = put_back(second, part_at(alloc, old, at - before, one, two));
                 Work::Parted {
                     split,
                     note,
@@ -136,6 +140,27 @@ pub(crate) fn part_at(
         }
         work => work,
     }
+}
+
+/// A waiting leaf, split into two others.
+fn parted(leaf: Waiting, one: NodeBox<Work>, two: NodeBox<Work>) -> Work
+    ensures { grown_of result ≡ grown_fork leaf.split (fractional_note leaf.optimum) (proved_key leaf.proved) (grown_of one) (grown_of two) }
+{
+    Work::Parted {
+        split: leaf.split,
+        key: (leaf.proved.value, leaf.proved.scale),
+        note: fractional_note(leaf.optimum),
+        first: one,
+        second: two,
+    }
+}
+
+/// A place with another tree in it.
+fn put_back(mut place: NodeBox<Work>, work: Work) -> NodeBox<Work>
+    ensures { result ≡ work }
+{
+    drop(place.replace(work));
+    place
 }
 
 /// A tree that stands in a place for a moment. It takes no memory.

@@ -6,7 +6,7 @@ use road_types::Listed;
 use tableau::Exchange;
 
 /// What narrowed multipliers prove of a box: no plan inside it costs less than the value over the scale.
-#[derive(Debug, Drop)]
+#[derive(Drop)]
 pub struct Proved {
     /// The value of scale and multipliers on the rows of the box.
     pub value: i128,
@@ -17,7 +17,7 @@ pub struct Proved {
 }
 
 /// An optimum of a box's linear program, and the exchanges that lead to it.
-#[derive(Debug, Drop)]
+#[derive(Drop)]
 pub struct Optimum {
     pub trail: Listed<Exchange>,
     pub den: i128,
@@ -27,7 +27,7 @@ pub struct Optimum {
 }
 
 /// A leaf that waits to be split: its box, the split for which its optimum asks, and what is proved of it.
-#[derive(Debug, Drop)]
+#[derive(Drop)]
 pub struct Waiting {
     pub range: BoxRange,
     pub split: Split,
@@ -36,7 +36,7 @@ pub struct Waiting {
 }
 
 /// A tree that grows.
-#[derive(Debug, Drop)]
+#[derive(Drop)]
 pub enum Work {
     /// A leaf without a plan.
     Dead {

@@ -17,8 +17,7 @@ use Rattle.branch_bound.specs.declared.work.Waiting.{Waiting}
 use Rattle.branch_bound.specs.declared.best.Best.{Best}
 use Rattle.branch_bound.specs.declared.growing.Search.{Search}
 use Rattle.branch_bound.specs.declared.growing.Finished.{Finished}
-use Rattle.branch_bound.specs.declared.best.Solved.{Solved}
-use Rattle.branch_bound.specs.declared.growing.SolvedParts.{SolvedParts}
+use Rattle.branch_bound.specs.inside.Solved.{Solved, SolvedParts}
 
 -- the cost of the best plan, where there is one
 abbrev pub best_cost : Option Best → Option Fraction

@@ -26,7 +26,7 @@ use Rattle.branch_bound.specs.declared.work.Proved.{Proved}
 use Rattle.branch_bound.specs.declared.work.Optimum.{Optimum}
 use Rattle.branch_bound.specs.declared.work.Work.{Work}
 use Rattle.branch_bound.specs.declared.best.Best.{Best}
-use Rattle.branch_bound.specs.declared.best.Solved.{Solved}
+use Rattle.branch_bound.specs.inside.Solved.{Solved}
 use Rattle.branch_bound.specs.declared.notes.NodeNote.TheVariants.{Limit}
 
 -- a leaf that is good on the box where the best plan has this cost

@@ -4,5 +4,6 @@ use Rattle.branch_bound.proofs.growing.solve_parts.Goals as goal
 
 pub returns : goal.returns
 returns c =
-    both_solved c.args.road.now c.args.best c.args.first c.args.second c.in_ok-one.one c.in_ok-two.two _ c.in_ok-one.ensures c.in_ok-two.ensures
-    c.in_ok-new.ensures.ok c.in_ok-new-2.ensures.ok refl
+    both_solved c.args.road.now c.args.best.now c.args.first c.args.second
+    (record { leaf = c.in_ok-one.one; best = c.solve_part.new.best }) (record { leaf = c.in_ok-two.two; best = c.solve_part-2.new.best }) _
+    c.in_ok-one.ensures c.in_ok-two.ensures refl refl refl

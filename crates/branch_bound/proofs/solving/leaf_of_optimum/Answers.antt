@@ -14,8 +14,8 @@ pub returns-in-Some : goal.returns-in-Some
 returns-in-Some c =
     let den : FitsSigned w128 c.args.optimum.den = search rules in
     let asked : IsAsked c.args.road.now c.args.range c.args.optimum.den c.as_slice.result.now c.in-Some.split = simp to_z-of_z at c.in-Some.ensures in
-    waiting_solved c.args.road.now c.args.best c.args.range c.args.optimum c.args.proved _ c.requires.best c.requires.optimum refl c.in-Some.split _
-    (subst (λ (point : List ℤ). IsAsked c.args.road.now c.args.range c.args.optimum.den point c.in-Some.split) c.as_slice.ensures asked) refl c.waiting_leaf-leaf.ensures
+    waiting_solved c.args.road.now c.args.best.now c.args.range c.args.optimum c.args.proved _ c.requires.best c.requires.optimum refl c.in-Some.split _
+    (subst (λ (point : List ℤ). IsAsked c.args.road.now c.args.range c.args.optimum.den point c.in-Some.split) c.as_slice.ensures asked) refl c.waiting_leaf.ensures
 
 pub returns-then-optimum-gt-GREATEST_SCALE : goal.returns-then-optimum-gt-GREATEST_SCALE
 returns-then-optimum-gt-GREATEST_SCALE c =
@@ -23,8 +23,8 @@ returns-then-optimum-gt-GREATEST_SCALE c =
     let none : AsksForNothing c.args.road.now c.args.optimum.den c.as_slice.result.now = simp to_z-of_z at c.in_default.ensures in
     let own = subst (λ (point : List ℤ). AsksForNothing c.args.road.now c.args.optimum.den point) c.as_slice.ensures none in
     let past = simp to_z-of_z at c.if-optimum-gt-GREATEST_SCALE.true in
-    denominator_solved c.args.road.now c.args.best c.args.range c.args.optimum c.args.proved _ c.requires.best c.requires.optimum refl
-    own.whole (omega (arith, ints, past)) (simp to_z-of_z at c.limit_leaf-leaf.ensures)
+    denominator_solved c.args.road.now c.args.best.now c.args.range c.args.optimum c.args.proved _ c.requires.best c.requires.optimum refl
+    own.whole (omega (arith, ints, past)) (simp to_z-of_z at c.limit_leaf.ensures)
 
 pub plan_found-requires-clause-den : goal.plan_found-requires-clause-den
 plan_found-requires-clause-den c =
@@ -32,8 +32,8 @@ plan_found-requires-clause-den c =
     let small = simp to_z-of_z at c.if-optimum-gt-GREATEST_SCALE.false in
     simp to_z-of_z (den_scale c.args.optimum.den c.requires.optimum.own_optimum.den_from_one (λ past. omega (arith, ints, small, past)))
 
-pub returns : goal.returns
-returns c =
+pub returns-in-Ok : goal.returns-in-Ok
+returns-in-Ok c =
     let den : FitsSigned w128 c.args.optimum.den = search rules in
     let road = c.args.road.now in
     let program = box_program road c.args.range in
@@ -41,8 +41,8 @@ returns c =
     let own = subst (λ (point : List ℤ). AsksForNothing road c.args.optimum.den point) c.as_slice.ensures none in
     let small = simp to_z-of_z at c.if-optimum-gt-GREATEST_SCALE.false in
     let scale : IsScale c.args.optimum.den = den_scale c.args.optimum.den c.requires.optimum.own_optimum.den_from_one (λ past. omega (arith, ints, small, past)) in
-    let priced : IsPricedBest road program c.args.optimum.den c.as_slice-2.result.now c.in_ok-found.found = simp to_z-of_z at c.in_ok-found.ensures in
-    whole_solved road c.args.range c.args.optimum c.args.proved c.in_ok-found.found c.args.best _ c.requires.optimum
+    let priced : IsPricedBest road program c.args.optimum.den c.as_slice-2.result.now c.in-Ok.found = simp to_z-of_z at c.in-Ok.ensures in
+    whole_solved road c.args.range c.args.optimum c.args.proved c.in-Ok.found c.args.best.now _ c.requires.optimum
     own.whole (own.exact scale.at_most)
-    (subst (λ (point : List ℤ). IsPricedBest road program c.args.optimum.den point c.in_ok-found.found) c.as_slice-2.ensures priced)
+    (subst (λ (point : List ℤ). IsPricedBest road program c.args.optimum.den point c.in-Ok.found) c.as_slice-2.ensures priced)
     c.requires.best c.whole_leaf.ensures

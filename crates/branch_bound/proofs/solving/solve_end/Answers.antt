@@ -1,11 +1,13 @@
 use Rattle.std.proofs.Common.{rules, FitsSigned, refl, subst, sym, ◌^◌, ◌-◌, List}
 use Rattle.std.specs.Prelude.{ℤ}
 use Rattle.std.specs.Int.{w128}
+use Rattle.std.specs.Result.{IfOk}
+use Rattle.std.proofs.lemmas.Result.{IfOk-weaker}
 use Rattle.std.proofs.lemmas.Int.{to_z-of_z}
 use Rattle.simplex.specs.Ends.{IsEnd, HasNumbersWithin, AreWithin, IsOptimum, IsSpent, IsWide}
 use Rattle.simplex.specs.declared.lp_end.LpEnd.{LpEnd}
 use Rattle.branch_bound.specs.Optima.{exchange_budget}
-use Rattle.branch_bound.specs.inside.Solving.{AreProving, IsStoppedLeaf}
+use Rattle.branch_bound.specs.inside.Solving.{AreProving, IsStoppedLeaf, IsEmptyLeaf}
 use Rattle.tableau.specs.declared.exchange.Exchange.{Exchange}
 use Rattle.branch_bound.specs.declared.notes.NodeNote.TheVariants.{Pivots, Wide}
 use Rattle.branch_bound.proofs.EndLemmas.{spent_proving, wide_proving, optimum_proving, spent_solved, wide_solved, empty_solved}
@@ -37,30 +39,41 @@ stopped_leaf-requires-in-Wide c =
     let within : AreWithin (2 ^ 127 - 1) c.in-Wide.mults.items = subst (λ (e : LpEnd). HasNumbersWithin (2 ^ 127 - 1) e) c.in-Wide.is c.requires.numbers in
     simp to_z-of_z (wide_proving c.args.milp.now (exchange_budget c.args.road.now) c.in-Wide.trail.items c.in-Wide.scale c.in-Wide.mults.items within c.in-Wide.op end)
 
-pub returns-in_ok-leaf-in-Empty : goal.returns-in_ok-leaf-in-Empty
-returns-in_ok-leaf-in-Empty c =
+pub returns-in-Empty : goal.returns-in-Empty
+returns-in-Empty c =
     let scale : FitsSigned w128 c.in-Empty.scale = search rules in
-    empty_solved c.args.road.now c.args.best c.args.range c.args.milp.now _ c.requires.best c.requires.program refl
-    c.in-Empty.trail.items c.in-Empty.scale c.in-Empty.mults.items (simp to_z-of_z at c.in_ok-leaf-in-Empty.ensures)
+    let empty : IfOk c.empty_leaf.result (λ leaf. IsEmptyLeaf c.args.road.now c.args.milp.now c.in-Empty.trail.items c.in-Empty.scale c.in-Empty.mults.items leaf) =
+    simp to_z-of_z at c.empty_leaf.ensures in
+    IfOk-weaker c.empty_leaf.result _ _
+    (λ leaf h.
+    empty_solved c.args.road.now c.args.best.now c.args.range c.args.milp.now _ c.requires.best c.requires.program refl
+    c.in-Empty.trail.items c.in-Empty.scale c.in-Empty.mults.items h)
+    empty
 
-pub returns-in_ok-leaf-in-Pivots : goal.returns-in_ok-leaf-in-Pivots
-returns-in_ok-leaf-in-Pivots c =
+pub returns-in-Pivots : goal.returns-in-Pivots
+returns-in-Pivots c =
     let scale : FitsSigned w128 c.in-Pivots.scale = search rules in
     let end : IsSpent c.args.milp.now (exchange_budget c.args.road.now) c.in-Pivots.trail.items c.in-Pivots.scale c.in-Pivots.mults.items =
     subst (λ (e : LpEnd). IsEnd (2 ^ 127 - 1) c.args.milp.now (exchange_budget c.args.road.now) e) c.in-Pivots.is c.requires.end in
-    let stopped : IsStoppedLeaf c.args.milp.now c.in-Pivots.scale c.in-Pivots.mults.items (Pivots c.new-in-Pivots.result) c.in_ok-leaf-in-Pivots.leaf =
-    simp to_z-of_z at c.in_ok-leaf-in-Pivots.ensures in
-    spent_solved c.args.road.now c.args.best c.args.range c.args.milp.now _ c.requires.best c.requires.program refl
+    let stopped : IfOk c.stopped_leaf.result (λ leaf. IsStoppedLeaf c.args.milp.now c.in-Pivots.scale c.in-Pivots.mults.items (Pivots c.new-in-Pivots.result) leaf) =
+    simp to_z-of_z at c.stopped_leaf.ensures in
+    IfOk-weaker c.stopped_leaf.result _ _
+    (λ leaf h.
+    spent_solved c.args.road.now c.args.best.now c.args.range c.args.milp.now _ c.requires.best c.requires.program refl
     c.in-Pivots.trail.items c.in-Pivots.scale c.in-Pivots.mults.items
-    (subst (λ (trail : List Exchange). IsStoppedLeaf c.args.milp.now c.in-Pivots.scale c.in-Pivots.mults.items (Pivots trail) c.in_ok-leaf-in-Pivots.leaf) c.new-in-Pivots.ensures stopped) end
+    (subst (λ (trail : List Exchange). IsStoppedLeaf c.args.milp.now c.in-Pivots.scale c.in-Pivots.mults.items (Pivots trail) leaf) c.new-in-Pivots.ensures h) end)
+    stopped
 
-pub returns-in_ok-leaf-in-Wide : goal.returns-in_ok-leaf-in-Wide
-returns-in_ok-leaf-in-Wide c =
+pub returns-in-Wide : goal.returns-in-Wide
+returns-in-Wide c =
     let scale : FitsSigned w128 c.in-Wide.scale = search rules in
     let end : IsWide (2 ^ 127 - 1) c.args.milp.now (exchange_budget c.args.road.now) c.in-Wide.trail.items c.in-Wide.op c.in-Wide.scale c.in-Wide.mults.items =
     subst (λ (e : LpEnd). IsEnd (2 ^ 127 - 1) c.args.milp.now (exchange_budget c.args.road.now) e) c.in-Wide.is c.requires.end in
-    let stopped : IsStoppedLeaf c.args.milp.now c.in-Wide.scale c.in-Wide.mults.items (Wide c.new-in-Wide.result c.in-Wide.op) c.in_ok-leaf-in-Wide.leaf =
-    simp to_z-of_z at c.in_ok-leaf-in-Wide.ensures in
-    wide_solved c.args.road.now c.args.best c.args.range c.args.milp.now _ c.requires.best c.requires.program refl
+    let stopped : IfOk c.stopped_leaf-in-Wide.result (λ leaf. IsStoppedLeaf c.args.milp.now c.in-Wide.scale c.in-Wide.mults.items (Wide c.new-in-Wide.result c.in-Wide.op) leaf) =
+    simp to_z-of_z at c.stopped_leaf-in-Wide.ensures in
+    IfOk-weaker c.stopped_leaf-in-Wide.result _ _
+    (λ leaf h.
+    wide_solved c.args.road.now c.args.best.now c.args.range c.args.milp.now _ c.requires.best c.requires.program refl
     c.in-Wide.trail.items c.in-Wide.op c.in-Wide.scale c.in-Wide.mults.items
-    (subst (λ (trail : List Exchange). IsStoppedLeaf c.args.milp.now c.in-Wide.scale c.in-Wide.mults.items (Wide trail c.in-Wide.op) c.in_ok-leaf-in-Wide.leaf) c.new-in-Wide.ensures stopped) end
+    (subst (λ (trail : List Exchange). IsStoppedLeaf c.args.milp.now c.in-Wide.scale c.in-Wide.mults.items (Wide trail c.in-Wide.op) leaf) c.new-in-Wide.ensures h) end)
+    stopped

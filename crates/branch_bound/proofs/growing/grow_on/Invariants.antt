@@ -1,7 +1,7 @@
 use Rattle.std.proofs.Common.{◌≡◌, ◌-◌, ◌≤◌}
 use Rattle.branch_bound.specs.inside.Grown.{grown_of, node_total}
 use Rattle.branch_bound.specs.inside.Searches.{IsSearch}
-use Rattle.branch_bound.proofs.growing.grow.Given as goal
+use Rattle.branch_bound.proofs.growing.grow_on.Given as goal
 
 abbrev pub invariant-loop-count : goal.invariant-loop-count
 invariant-loop-count l = record {
