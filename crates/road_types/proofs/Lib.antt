@@ -2,6 +2,7 @@ pub mod Acceptance
 pub mod AcceptedRoad
 pub mod Neighbours
 pub mod ListRests
+pub mod SlabWidths
 pub mod SegmentLemmas
 pub mod HeightWidths
 pub mod ColumnPlaces
