@@ -4,7 +4,7 @@ use Rattle.std.specs.Prelude.{ℤ, pos, ◌-ℤ◌, ◌≤ℤ◌, ◌<ℤ◌, in
 use Rattle.std.proofs.lemmas.Int.{ints}
 use Rattle.std.proofs.lemmas.List.{take_all}
 use Rattle.road_types.specs.Numbered.{numbered, IsNumber}
-use Rattle.road_types.specs.Heights.{knots_before, segment_at, segment_start, IsInSegment}
+use Rattle.road_types.specs.Heights.{knots_before, segment_at, segment_start, segment_length, IsInSegment}
 use Rattle.road_types.specs.Road.{segment_count}
 use Rattle.road_types.specs.WellFormed.{IsWellFormed, IsOnKnots}
 use Rattle.road_types.specs.declared.road.Road.{Road}
@@ -98,3 +98,10 @@ station_span road station g ok on number =
     let last = ok.knots_in_range (suc (segment_count road)) (record { from_one = omega arith; at_most = omega (arith, ok.counted.knots_from) }) in
     let here = ok.knots_in_range g (record { from_one = number.from_one; at_most = omega (arith, number.at_most) }) in
     omega (arith, ints, first.at_least, last.at_most, here.at_least, here.at_most, on.after_first, on.before_last)
+
+-- a segment is at most 100000 steps long
+pub segment_span : (road : Road) (g : ℕ) → IsWellFormed road → IsNumber g (segment_count road) → unsigned_abs (segment_length road.knots g) ≤ 100000
+segment_span road g ok number =
+    let start = ok.knots_in_range g (record { from_one = number.from_one; at_most = omega (arith, number.at_most) }) in
+    let end = ok.knots_in_range (suc g) (record { from_one = omega arith; at_most = omega (arith, number.at_most) }) in
+    omega (arith, ints, start.at_least, start.at_most, end.at_least, end.at_most)
