@@ -1,7 +1,7 @@
 // The columns of a road's program by what they stand for.
 
 /// What a column of a road's program stands for. Segments, sections, hops, stages, access roads and blocks are numbered from 1.
-#[derive(Clone, Copy, Debug, PartialEq, Eq)]
+#[derive(Clone, Copy)]
 pub enum Column {
     /// Height at the segment's start, in mm.
     A { segment: usize },
