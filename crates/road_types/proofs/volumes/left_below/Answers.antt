@@ -16,7 +16,7 @@ minus-requires c =
     let whole : FitsSigned w128 c.scaled.result = search rules in
     let is = simp to_z-of_z at c.scaled.ensures in
     simp to_z-of_z (rw is (fits_below c.args.depth (c.args.slab.thick *ℤ c.args.den) depth c.requires.depth
-      (slab_from c.args.slab c.args.den c.requires.solid c.requires.den) (slab_to c.args.slab c.args.den c.requires.solid c.requires.den)))
+    (slab_from c.args.slab c.args.den c.requires.solid c.requires.den) (slab_to c.args.slab c.args.den c.requires.solid c.requires.den)))
 
 pub returns-clause-value : goal.returns-clause-value
 returns-clause-value c =

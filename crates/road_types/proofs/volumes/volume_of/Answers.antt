@@ -16,8 +16,8 @@ times-requires c =
     let wide : FitsSigned w128 c.from.result = search rules in
     let is = simp to_z-of_z at c.from.ensures in
     simp to_z-of_z (rw is (fits_w128_mul c.args.area c.args.thickness (2 ^ 24) (2 ^ 64)
-      (within c.args.area (2 ^ 24) c.requires.area_from c.requires.area_to)
-      (within c.args.thickness (2 ^ 64) c.requires.thickness_from c.requires.thickness_to) (omega arith)))
+    (within c.args.area (2 ^ 24) c.requires.area_from c.requires.area_to)
+    (within c.args.thickness (2 ^ 64) c.requires.thickness_from c.requires.thickness_to) (omega arith)))
 
 pub returns-clause-value : goal.returns-clause-value
 returns-clause-value c =
@@ -47,4 +47,4 @@ returns-clause-to c =
     let is = simp to_z-of_z at c.from.ensures in
     let value = rw is at (simp to_z-of_z at c.times.ensures) in
     simp to_z-of_z (rw value (int_mul_le_mul c.args.area (pos (2 ^ 24)) c.args.thickness (pos (2 ^ 64))
-      c.requires.area_from c.requires.area_to c.requires.thickness_from c.requires.thickness_to))
+    c.requires.area_from c.requires.area_to c.requires.thickness_from c.requires.thickness_to))
