@@ -3,3 +3,4 @@ pub mod ItemsLemmas
 pub mod KeysLemmas
 pub mod NamesLemmas
 pub mod RoadLemmas
+pub mod ReadingLemmas

@@ -84,20 +84,87 @@ impl FromValue for Section {
 
     ghost reads = { section_of };
 
-    #[tactic(auto, unfolding(crate::specs::Records::section_of))]
+    #[tactic(auto, using(crate::proofs::ReadingLemmas::section_by_parts))]
     fn from_value(alloc: Global, value: &Value) -> Result<Self, RoadErr> {
-        let table = table(value)?;
-        Ok(Section {
-            station: whole_at(table, "station")?,
-            ground: whole_at(table, "ground")?,
-            cut: list_at(alloc, table, "cut")?,
-            fill: list_at(alloc, table, "fill")?,
-            cut_cost: whole_at(table, "cut_cost")?,
-            fill_cost: whole_at(table, "fill_cost")?,
-            cut_max: whole_at(table, "cut_max")?,
-            fill_max: whole_at(table, "fill_max")?,
-        })
+        read_section(alloc, value)
     }
+}
+
+ghost use Rattle.road_file.specs.inside.Reading.{read_section, section_with};
+
+/// Reads a section in the order of its values.
+#[tactic(auto, unfolding(crate::specs::inside::Reading::read_section))]
+fn read_section(alloc: Global, value: &Value) -> Result<Section, RoadErr>
+    ensures { MayAnswer result (read_section (view value.now)) }
+{
+    let table = table(value)?;
+    let station = whole_at(table, "station")?;
+    let ground = whole_at(table, "ground")?;
+    let cut = list_at(alloc, table, "cut")?;
+    let fill = match list_at(alloc, table, "fill") {
+        Ok(fill) => fill,
+        Err(error) => {
+            // Dropped by name, which is one step in the proof.
+            drop(cut);
+            return Err(error);
+        }
+    };
+    section_with(table, station, ground, cut, fill)
+}
+
+/// The section with these tables, once its costs and limits are read.
+#[tactic(auto, unfolding(crate::specs::inside::Reading::section_with))]
+fn section_with(
+    table: &Table,
+    station: i64,
+    ground: i64,
+    cut: Listed<Slab>,
+    fill: Listed<Slab>,
+) -> Result<Section, RoadErr>
+    ensures { MayAnswer result (section_with (table_view table.now) station ground cut fill) }
+{
+    let cut_cost = match whole_at(table, "cut_cost") {
+        Ok(cut_cost) => cut_cost,
+        Err(error) => {
+            drop(cut);
+            drop(fill);
+            return Err(error);
+        }
+    };
+    let fill_cost = match whole_at(table, "fill_cost") {
+        Ok(fill_cost) => fill_cost,
+        Err(error) => {
+            drop(cut);
+            drop(fill);
+            return Err(error);
+        }
+    };
+    let cut_max = match whole_at(table, "cut_max") {
+        Ok(cut_max) => cut_max,
+        Err(error) => {
+            drop(cut);
+            drop(fill);
+            return Err(error);
+        }
+    };
+    let fill_max = match whole_at(table, "fill_max") {
+        Ok(fill_max) => fill_max,
+        Err(error) => {
+            drop(cut);
+            drop(fill);
+            return Err(error);
+        }
+    };
+    Ok(Section {
+        station,
+        ground,
+        cut,
+        fill,
+        cut_cost,
+        fill_cost,
+        cut_max,
+        fill_max,
+    })
 }
 
 impl FromValue for Hop {
@@ -141,11 +208,35 @@ impl FromValue for FilePit {
     #[tactic(auto, unfolding(crate::specs::Records::pit_of))]
     fn from_value(alloc: Global, value: &Value) -> Result<Self, RoadErr> {
         let table = table(value)?;
+        let name = text_at(alloc, table, "name")?;
+        let kind = match text_at(alloc, table, "kind") {
+            Ok(kind) => kind,
+            Err(error) => {
+                drop(name);
+                return Err(error);
+            }
+        };
+        let capacity = match whole_at(table, "capacity") {
+            Ok(capacity) => capacity,
+            Err(error) => {
+                drop(name);
+                drop(kind);
+                return Err(error);
+            }
+        };
+        let cost = match whole_at(table, "cost") {
+            Ok(cost) => cost,
+            Err(error) => {
+                drop(name);
+                drop(kind);
+                return Err(error);
+            }
+        };
         Ok(FilePit {
-            name: text_at(alloc, table, "name")?,
-            kind: text_at(alloc, table, "kind")?,
-            capacity: whole_at(table, "capacity")?,
-            cost: whole_at(table, "cost")?,
+            name,
+            kind,
+            capacity,
+            cost,
         })
     }
 }
@@ -158,11 +249,33 @@ impl FromValue for FileAccess {
     #[tactic(auto, unfolding(crate::specs::Records::access_of))]
     fn from_value(alloc: Global, value: &Value) -> Result<Self, RoadErr> {
         let table = table(value)?;
+        let pit = text_at(alloc, table, "pit")?;
+        let section = match whole_at(table, "section") {
+            Ok(section) => section,
+            Err(error) => {
+                drop(pit);
+                return Err(error);
+            }
+        };
+        let cost = match whole_at(table, "cost") {
+            Ok(cost) => cost,
+            Err(error) => {
+                drop(pit);
+                return Err(error);
+            }
+        };
+        let max = match whole_at(table, "max") {
+            Ok(max) => max,
+            Err(error) => {
+                drop(pit);
+                return Err(error);
+            }
+        };
         Ok(FileAccess {
-            pit: text_at(alloc, table, "pit")?,
-            section: whole_at(table, "section")?,
-            cost: whole_at(table, "cost")?,
-            max: whole_at(table, "max")?,
+            pit,
+            section,
+            cost,
+            max,
         })
     }
 }
@@ -182,32 +295,258 @@ impl FromValue for FileBlock {
     }
 }
 
+/// The version, and the scales of the road.
+#[derive(Clone, Copy)]
+pub(crate) struct FileScales {
+    pub(crate) version: i64,
+    pub(crate) step: i64,
+    pub(crate) stages: i64,
+}
+
+/// The limits of heights, grades, curves and of the search.
+#[derive(Clone, Copy)]
+pub(crate) struct FileLimits {
+    pub(crate) low: i64,
+    pub(crate) high: i64,
+    pub(crate) grade: (i64, i64),
+    pub(crate) curve: i64,
+    pub(crate) nodes: i64,
+    pub(crate) pivots: i64,
+}
+
+/// The knots, the name of the section table, and the sections, hops and fixed points.
+#[derive(Drop)]
+pub(crate) struct FilePlaces {
+    pub(crate) knots: Listed<i64>,
+    pub(crate) table: Option<Text>,
+    pub(crate) sections: Listed<Section>,
+    pub(crate) hops: Listed<Hop>,
+    pub(crate) fixed: Listed<Fixed>,
+}
+
+ghost use Rattle.road_file.specs.inside.Reading.{read_file, read_on, read_places, read_pits, whole_file};
+
 impl RoadFile {
     ghost use Rattle.road_file.specs.Records.{file_of};
 
     /// Reads the values of a document; refused by the fault of a value that isn't of its kind.
-    #[tactic(auto, unfolding(crate::specs::Records::file_of))]
+    #[tactic(auto, using(crate::proofs::ReadingLemmas::file_by_parts))]
     pub(crate) fn read(alloc: Global, root: &Table) -> Result<Self, RoadErr>
         ensures { MayAnswer result (file_of (table_view root.now)) }
     {
-        Ok(RoadFile {
-            version: whole_at(root, "version")?,
-            step: whole_at(root, "step")?,
-            stages: whole_at(root, "stages")?,
-            knots: list_at(alloc, root, "knots")?,
-            low: whole_at(root, "low")?,
-            high: whole_at(root, "high")?,
-            grade: pair_at(root, "grade")?,
-            curve: whole_at(root, "curve")?,
-            nodes: whole_or(NODES, root, "nodes")?,
-            pivots: whole_or(PIVOTS, root, "pivots")?,
-            table: text_or_none(alloc, root, "table")?,
-            sections: list_or_empty(alloc, root, "section")?,
-            hops: list_or_empty(alloc, root, "hop")?,
-            fixed: list_or_empty(alloc, root, "fixed")?,
-            pits: list_or_empty(alloc, root, "pit")?,
-            roads: list_or_empty(alloc, root, "road")?,
-            blocks: list_or_empty(alloc, root, "block")?,
-        })
+        read_file(alloc, root)
+    }
+}
+
+/// Reads a file in the order of its values.
+#[tactic(auto, unfolding(crate::specs::inside::Reading::read_file))]
+fn read_file(alloc: Global, root: &Table) -> Result<RoadFile, RoadErr>
+    ensures { MayAnswer result (read_file (table_view root.now)) }
+{
+    let version = whole_at(root, "version")?;
+    let step = whole_at(root, "step")?;
+    let stages = whole_at(root, "stages")?;
+    let scales = FileScales {
+        version,
+        step,
+        stages,
+    };
+    let knots = list_at(alloc, root, "knots")?;
+    read_on(alloc, root, scales, knots)
+}
+
+/// Reads what stands behind the knots.
+#[tactic(auto, unfolding(crate::specs::inside::Reading::read_on))]
+fn read_on(
+    alloc: Global,
+    root: &Table,
+    scales: FileScales,
+    knots: Listed<i64>,
+) -> Result<RoadFile, RoadErr>
+    ensures { MayAnswer result (read_on (table_view root.now) scales knots) }
+{
+    let low = match whole_at(root, "low") {
+        Ok(low) => low,
+        Err(error) => {
+            drop(knots);
+            return Err(error);
+        }
+    };
+    let high = match whole_at(root, "high") {
+        Ok(high) => high,
+        Err(error) => {
+            drop(knots);
+            return Err(error);
+        }
+    };
+    let grade = match pair_at(root, "grade") {
+        Ok(grade) => grade,
+        Err(error) => {
+            drop(knots);
+            return Err(error);
+        }
+    };
+    let curve = match whole_at(root, "curve") {
+        Ok(curve) => curve,
+        Err(error) => {
+            drop(knots);
+            return Err(error);
+        }
+    };
+    let nodes = match whole_or(NODES, root, "nodes") {
+        Ok(nodes) => nodes,
+        Err(error) => {
+            drop(knots);
+            return Err(error);
+        }
+    };
+    let pivots = match whole_or(PIVOTS, root, "pivots") {
+        Ok(pivots) => pivots,
+        Err(error) => {
+            drop(knots);
+            return Err(error);
+        }
+    };
+    let limits = FileLimits {
+        low,
+        high,
+        grade,
+        curve,
+        nodes,
+        pivots,
+    };
+    read_places(alloc, root, scales, limits, knots)
+}
+
+/// Reads what stands behind the limits.
+#[tactic(auto, unfolding(crate::specs::inside::Reading::read_places))]
+fn read_places(
+    alloc: Global,
+    root: &Table,
+    scales: FileScales,
+    limits: FileLimits,
+    knots: Listed<i64>,
+) -> Result<RoadFile, RoadErr>
+    ensures { MayAnswer result (read_places (table_view root.now) scales limits knots) }
+{
+    let table = match text_or_none(alloc, root, "table") {
+        Ok(table) => table,
+        Err(error) => {
+            drop(knots);
+            return Err(error);
+        }
+    };
+    let sections = match list_or_empty(alloc, root, "section") {
+        Ok(sections) => sections,
+        Err(error) => {
+            drop(knots);
+            drop(table);
+            return Err(error);
+        }
+    };
+    let hops = match list_or_empty(alloc, root, "hop") {
+        Ok(hops) => hops,
+        Err(error) => {
+            drop(knots);
+            drop(table);
+            drop(sections);
+            return Err(error);
+        }
+    };
+    let fixed = match list_or_empty(alloc, root, "fixed") {
+        Ok(fixed) => fixed,
+        Err(error) => {
+            drop(knots);
+            drop(table);
+            drop(sections);
+            drop(hops);
+            return Err(error);
+        }
+    };
+    let places = FilePlaces {
+        knots,
+        table,
+        sections,
+        hops,
+        fixed,
+    };
+    read_pits(alloc, root, scales, limits, places)
+}
+
+/// Reads the pits, access roads and blocks, which are the last.
+#[tactic(auto, unfolding(crate::specs::inside::Reading::read_pits))]
+fn read_pits(
+    alloc: Global,
+    root: &Table,
+    scales: FileScales,
+    limits: FileLimits,
+    places: FilePlaces,
+) -> Result<RoadFile, RoadErr>
+    ensures { MayAnswer result (read_pits (table_view root.now) scales limits places) }
+{
+    let pits = match list_or_empty(alloc, root, "pit") {
+        Ok(pits) => pits,
+        Err(error) => {
+            drop(places);
+            return Err(error);
+        }
+    };
+    let roads = match list_or_empty(alloc, root, "road") {
+        Ok(roads) => roads,
+        Err(error) => {
+            drop(places);
+            drop(pits);
+            return Err(error);
+        }
+    };
+    let blocks = match list_or_empty(alloc, root, "block") {
+        Ok(blocks) => blocks,
+        Err(error) => {
+            drop(places);
+            drop(pits);
+            drop(roads);
+            return Err(error);
+        }
+    };
+    Ok(whole_file(scales, limits, places, pits, roads, blocks))
+}
+
+/// The file of its parts.
+#[tactic(auto, unfolding(crate::specs::inside::Reading::whole_file))]
+fn whole_file(
+    scales: FileScales,
+    limits: FileLimits,
+    places: FilePlaces,
+    pits: Listed<FilePit>,
+    roads: Listed<FileAccess>,
+    blocks: Listed<FileBlock>,
+) -> RoadFile
+    ensures { result ≡ whole_file scales limits places pits roads blocks }
+{
+    let FilePlaces {
+        knots,
+        table,
+        sections,
+        hops,
+        fixed,
+    } = places;
+    RoadFile {
+        version: scales.version,
+        step: scales.step,
+        stages: scales.stages,
+        knots,
+        low: limits.low,
+        high: limits.high,
+        grade: limits.grade,
+        curve: limits.curve,
+        nodes: limits.nodes,
+        pivots: limits.pivots,
+        table,
+        sections,
+        hops,
+        fixed,
+        pits,
+        roads,
+        blocks,
     }
 }
