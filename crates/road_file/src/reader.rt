@@ -3,9 +3,12 @@ ghost use Rattle.std.specs.Prelude.{◌≡◌, IfOk, MatchResult, IsTrue, false,
 ghost use Rattle.std.specs.Str.{bytes_eq};
 ghost use Rattle.indexmap.specs.IndexMap.{get_by};
 ghost use Rattle.road_types.specs.Faults.{road_fault};
-ghost use Rattle.road_file.specs.Step.{MayAnswer};
+ghost use Rattle.road_file.specs.Step.{MayAnswer, where_kept};
+ghost use Rattle.road_file.specs.Ranges.{file_in_range};
+ghost use Rattle.toml.specs.View.{table_view};
 ghost use Rattle.road_file.specs.RoadOf.{natural_or_zero, kind_of, pit_from, access_to, access_from, block_from, hops_between, road_from, contents_of, table_name_of, of_table, sections_by, with_sections, completed, of_fault, road_of};
 ghost use Rattle.road_file.specs.inside.Numbering.{IsNumbering};
+ghost use Rattle.road_file.specs.inside.Reading.{contents_in};
 
 use crate::document::document;
 use crate::file::{FileAccess, FileBlock, FilePit, RoadFile};
@@ -15,6 +18,8 @@ use indexmap::IndexMap;
 use road_types::{Access, Block, Fault, Hop, Listed, Pit, PitKind, Road, Section, Text};
 use section_tables::{TableErr, read_sections};
 use std::alloc::{AllocError, Global};
+use std::mem;
+use toml::Table;
 
 /// A whole number as a count or an entry's number; 0, which is none, below 1.
 fn natural_or_zero(x: i64) -> usize
@@ -111,6 +116,7 @@ fn roads(
         let pit = pit_number(&numbers, road.pit.as_str());
         built.push(access(pit, road))?;
     }
+    drop(numbers);
     Ok(Listed::new(built))
 }
 
@@ -153,8 +159,44 @@ fn hops_between(
 }
 
 /// The road that a file's values stand for.
-#[tactic(auto, unfolding(crate::specs::RoadOf::road_from))]
 fn road(alloc: Global, file: RoadFile) -> Result<Road, AllocError>
+    ensures { IfOk result (λ r. r ≡ road_from file) }
+{
+    match roads(alloc, file.pits.as_slice(), file.roads.as_slice()) {
+        Ok(roads) => road_by(alloc, file, roads),
+        Err(error) => {
+            // Dropped by name, which is one step in the proof.
+            drop(file);
+            Err(error)
+        }
+    }
+}
+
+/// The road of a file, once its access roads are built.
+fn road_by(alloc: Global, file: RoadFile, roads: Listed<Access>) -> Result<Road, AllocError>
+    requires { roads ≡ map (access_from file.pits) file.roads }
+    ensures { IfOk result (λ r. r ≡ road_from file) }
+{
+    match blocks(alloc, file.blocks.as_slice()) {
+        Ok(blocks) => road_on(alloc, file, roads, blocks),
+        Err(error) => {
+            drop(file);
+            drop(roads);
+            Err(error)
+        }
+    }
+}
+
+/// The road of a file, once its access roads and blocks are built.
+#[tactic(auto, unfolding(crate::specs::RoadOf::road_from))]
+fn road_on(
+    alloc: Global,
+    file: RoadFile,
+    roads: Listed<Access>,
+    blocks: Listed<Block>,
+) -> Result<Road, AllocError>
+    requires roads { roads ≡ map (access_from file.pits) file.roads }
+    requires blocks { blocks ≡ map block_from file.blocks }
     ensures { IfOk result (λ r. r ≡ road_from file) }
 {
     let RoadFile {
@@ -168,18 +210,41 @@ fn road(alloc: Global, file: RoadFile) -> Result<Road, AllocError>
         curve,
         nodes,
         pivots,
-        table: _,
+        table,
         sections,
-        hops,
+        hops: file_hops,
         fixed,
         pits: file_pits,
         roads: file_roads,
         blocks: file_blocks,
     } = file;
-    let roads = roads(alloc, file_pits.as_slice(), file_roads.as_slice())?;
-    let hops = hops_between(alloc, sections.len(), hops)?;
-    let blocks = blocks(alloc, file_blocks.as_slice())?;
-    let pits = pits(alloc, file_pits.into_vec())?;
+    drop(table);
+    drop(file_roads);
+    drop(file_blocks);
+    let hops = match hops_between(alloc, sections.len(), file_hops) {
+        Ok(hops) => hops,
+        Err(error) => {
+            drop(file_pits);
+            drop(knots);
+            drop(sections);
+            drop(fixed);
+            drop(roads);
+            drop(blocks);
+            return Err(error);
+        }
+    };
+    let pits = match pits(alloc, file_pits.into_vec()) {
+        Ok(pits) => pits,
+        Err(error) => {
+            drop(hops);
+            drop(knots);
+            drop(sections);
+            drop(fixed);
+            drop(roads);
+            drop(blocks);
+            return Err(error);
+        }
+    };
     Ok(Road {
         step,
         stages: natural_or_zero(stages),
@@ -211,16 +276,36 @@ fn keep(rule: bool, fault: Fault) -> Result<(), RoadErr>
 }
 
 /// What a file says, where its keys, kinds and ranges are right.
-#[tactic(auto, unfolding(crate::specs::RoadOf::contents_of))]
+#[tactic(auto, unfolding(crate::specs::RoadOf::contents_of, crate::specs::inside::Reading::contents_in))]
 fn contents(alloc: Global, bytes: &[u8]) -> Result<RoadFile, RoadErr>
     ensures { MayAnswer result (contents_of bytes.now) }
 {
     let root = document(alloc, bytes)?;
-    keep(keys::is_complete(&root), Fault::F3)?;
-    keep(keys::is_known(&root), Fault::F4)?;
-    let file = RoadFile::read(alloc, &root)?;
-    keep(file_in_range(&file), Fault::F6)?;
-    Ok(file)
+    let file = contents_in(alloc, &root);
+    drop(root);
+    file
+}
+
+/// What a document says, where its keys, kinds and ranges are right.
+#[tactic(auto, unfolding(crate::specs::inside::Reading::contents_in))]
+fn contents_in(alloc: Global, root: &Table) -> Result<RoadFile, RoadErr>
+    ensures { MayAnswer result (contents_in (table_view root.now)) }
+{
+    keep(keys::is_complete(root), Fault::F3)?;
+    keep(keys::is_known(root), Fault::F4)?;
+    in_range(RoadFile::read(alloc, root)?)
+}
+
+/// Refused where a number or a text is out of its range.
+fn in_range(file: RoadFile) -> Result<RoadFile, RoadErr>
+    ensures { MayAnswer result (where_kept (file_in_range file) Fault.F6 file) }
+{
+    if file_in_range(&file) {
+        Ok(file)
+    } else {
+        drop(file);
+        Err(RoadErr::Refused(Fault::F6))
+    }
 }
 
 /// The sections of a section table, which has to be given.
@@ -242,7 +327,7 @@ fn with_sections(file: RoadFile, sections: Listed<Section>) -> RoadFile
     ensures { result ≡ with_sections file sections }
 {
     let mut file = file;
-    file.sections = sections;
+    drop(mem::replace(&mut file.sections, sections));
     file
 }
 
@@ -252,10 +337,17 @@ fn completed(alloc: Global, file: RoadFile, csv: Option<&[u8]>) -> Result<RoadFi
     ensures { MayAnswer result (completed file (option_map (λ bytes. bytes.now) csv.entry)) }
 {
     if file.table.is_none() {
-        return Ok(file);
+        Ok(file)
+    } else {
+        match table_sections(alloc, csv) {
+            Ok(sections) => Ok(with_sections(file, sections)),
+            Err(error) => {
+                // Dropped by name, which is one step in the proof.
+                drop(file);
+                Err(error)
+            }
+        }
     }
-    let sections = table_sections(alloc, csv)?;
-    Ok(with_sections(file, sections))
 }
 
 /// Refused by the first fault of a road's record.
@@ -265,7 +357,10 @@ fn accepted(road: Road) -> Result<Road, RoadErr>
 {
     match road.check() {
         None => Ok(road),
-        Some(fault) => Err(RoadErr::Refused(fault)),
+        Some(fault) => {
+            drop(road);
+            Err(RoadErr::Refused(fault))
+        }
     }
 }
 
