@@ -6,7 +6,7 @@ use road_types::Fault;
 use std::alloc::{AllocError, AllocFailed};
 
 /// Why no road was read.
-#[derive(Clone, Copy, Debug, PartialEq, Eq)]
+#[derive(Clone, Copy)]
 pub enum RoadErr {
     /// The first fault of the road file.
     Refused(Fault),
