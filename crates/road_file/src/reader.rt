@@ -46,7 +46,13 @@ fn numbering<'a>(alloc: Global, pits: &'a [FilePit]) -> Result<IndexMap<&'a str,
     for (index, pit) in pits.iter().enumerate() {
         let name = pit.name.as_str();
         if !numbers.contains_key(name) {
-            numbers.insert(name, index + 1)?;
+            match numbers.insert(name, index + 1) {
+                Ok(_) => {}
+                Err(error) => {
+                    drop(numbers);
+                    return Err(AllocError::from(error));
+                }
+            }
         }
     }
     Ok(numbers)
@@ -114,7 +120,14 @@ fn roads(
     let mut built = Vec::new(alloc);
     for road in roads {
         let pit = pit_number(&numbers, road.pit.as_str());
-        built.push(access(pit, road))?;
+        match built.push(access(pit, road)) {
+            Ok(()) => {}
+            Err(error) => {
+                drop(numbers);
+                drop(built);
+                return Err(AllocError::from(error));
+            }
+        }
     }
     drop(numbers);
     Ok(Listed::new(built))
