@@ -384,8 +384,10 @@ fn accepted(road: Road) -> Result<Road, RoadErr>
 pub fn table_name(alloc: Global, bytes: &[u8]) -> Result<Option<Text>, RoadErr>
     ensures { MayAnswer result (table_name_of bytes.now) }
 {
-    let file = contents(alloc, bytes)?;
-    Ok(file.table)
+    let mut file = contents(alloc, bytes)?;
+    let table = file.table.take();
+    drop(file);
+    Ok(table)
 }
 
 /// Reads a road file of at most 4 MiB. `csv` is what its section table holds; it isn't looked at where the file names none.
