@@ -1,11 +1,11 @@
 -- How large heights and grades are where a plan's segments are within the road's limits.
 use Rattle.std.proofs.Common.{ℕ, ◌*◌, ◌^◌, ◌≤◌, arith}
-use Rattle.std.specs.Prelude.{ℤ, neg_ℤ, unsigned_abs}
+use Rattle.std.specs.Prelude.{ℤ, ◌*ℤ◌, neg_ℤ, unsigned_abs}
 use Rattle.std.proofs.lemmas.Int.{ints}
 use Rattle.algebra.proofs.Magnitudes.{unsigned_abs_mul_le}
 use Rattle.road_types.specs.Numbered.{IsNumber}
 use Rattle.road_types.specs.Road.{segment_count}
-use Rattle.road_types.specs.WellFormed.{IsWellFormed}
+use Rattle.road_types.specs.WellFormed.{IsWellFormed, IsHeight}
 use Rattle.road_types.specs.declared.road.Road.{Road}
 use Rattle.plan_rules.specs.declared.plan.Plan.{Plan}
 use Rattle.plan_rules.specs.Plans.{piece_of}
@@ -37,3 +37,10 @@ small_piece road plan ok f limited g number =
       b = omega (arith, within_width road.grade.0 road.grade.1 plan.den (piece_of plan g).b 1000000 den grade_low grade_high inside.grade);
       c = omega (arith, within_width (neg_ℤ road.curve) road.curve plan.den (piece_of plan g).c 1000000 den least curve inside.curve);
     }
+
+-- the height of the ground, over a denominator
+pub ground_width : (den ground : ℤ) → IsScale den → IsHeight ground → unsigned_abs (den *ℤ ground) ≤ 2 ^ 64
+ground_width den ground d h =
+    let wide : unsigned_abs den ≤ 2 ^ 40 = omega (arith, ints, d.from_one, d.at_most) in
+    let high : unsigned_abs ground ≤ 10000000 = omega (arith, ints, h.at_least, h.at_most) in
+    omega (arith, unsigned_abs_mul_le den ground (2 ^ 40) 10000000 wide high)

@@ -11,3 +11,8 @@ returns c =
     let station : FitsSigned w64 c.fixed_point-fixed.result.station = search rules in
     let height : FitsSigned w128 c.height_on.result = search rules in
     rw (simp to_z-of_z at c.height_on.ensures.value, c.fixed_point-fixed.ensures) at (simp to_z-of_z at c.is_within.ensures)
+
+pub height_on-requires-clause-station : goal.height_on-requires-clause-station
+height_on-requires-clause-station c =
+    let station : FitsSigned w64 c.fixed_point-fixed.result.station = search rules in
+    simp to_z-of_z (rw c.fixed_point-fixed.ensures (c.requires.well_formed.fixed c.args.number c.requires.number).on_knots)
