@@ -27,3 +27,14 @@ returns-else-lies_in_slabs c =
     let at = c.offset_at-offset.ensures.value in
     let inside = rw (at, c.section-section.ensures) at (simp to_z-of_z at c.if-lies_in_slabs.ensures.value) in
     (λ t. absurd (cc), λ h. inside.1 h.range)
+
+pub lies_in_slabs-requires-clause-cut : goal.lies_in_slabs-requires-clause-cut
+lies_in_slabs-requires-clause-cut c = rw c.section-section.ensures (c.requires.well_formed.sections c.args.number c.requires.number).cut
+
+pub lies_in_slabs-requires-clause-fill : goal.lies_in_slabs-requires-clause-fill
+lies_in_slabs-requires-clause-fill c = rw c.section-section.ensures (c.requires.well_formed.sections c.args.number c.requires.number).fill
+
+pub net_volume-requires-clause-offset : goal.net_volume-requires-clause-offset
+net_volume-requires-clause-offset c =
+    let offset : FitsSigned w128 c.offset_at-offset.result = search rules in
+    simp to_z-of_z ((simp to_z-of_z at c.if-lies_in_slabs.ensures.width) refl)
