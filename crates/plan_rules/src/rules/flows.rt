@@ -26,7 +26,6 @@ pub fn is_balanced(road: &Road, plan: &Plan, stage: usize, number: usize) -> boo
 }
 
 /// What is cut in a section, hauled to it and borrowed for it in a stage.
-#[tactic(auto, using(crate::proofs::FitsLemmas::amounts_of_fits))]
 fn earth_in(road: &Road, plan: &Plan, stage: usize, number: usize) -> i128
     requires well_formed { IsWellFormed road.now }
     requires fits { Fits road.now plan.now }
@@ -39,7 +38,6 @@ fn earth_in(road: &Road, plan: &Plan, stage: usize, number: usize) -> i128
 }
 
 /// What is filled in a section, hauled from it and wasted of it in a stage.
-#[tactic(auto, using(crate::proofs::FitsLemmas::amounts_of_fits))]
 fn earth_out(road: &Road, plan: &Plan, stage: usize, number: usize) -> i128
     requires well_formed { IsWellFormed road.now }
     requires fits { Fits road.now plan.now }
