@@ -26,7 +26,7 @@ enum Movement {
 }
 
 /// What a plan costs by what is paid for, each total over the plan's denominator.
-#[derive(Clone, Copy, Debug)]
+#[derive(Clone, Copy)]
 pub struct CostTotals {
     /// Cut in all sections.
     pub cut: i128,

@@ -1,7 +1,7 @@
 // What a judge says of a plan.
 
 /// A rule of a plan, by its number.
-#[derive(Clone, Copy, Debug, PartialEq, Eq)]
+#[derive(Clone, Copy)]
 pub enum Rule {
     /// Each segment's numbers are within the road's limits.
     P1,
@@ -24,7 +24,7 @@ pub enum Rule {
 }
 
 /// A judge's answer.
-#[derive(Clone, Copy, Debug, PartialEq, Eq)]
+#[derive(Clone, Copy)]
 pub enum Verdict {
     /// No rule is broken; the cost is over the plan's denominator.
     Admissible {
