@@ -1,5 +1,5 @@
 -- What a scan over rules, stages and places knows on its way.
-use Rattle.std.proofs.Common.{◌≡◌, ℕ, zero, suc, ◌+◌, ◌-◌, ◌*◌, ◌^◌, ◌≤◌, ◌<◌, arith, refl, List, [], ◌∷◌, get_or}
+use Rattle.std.proofs.Common.{◌≡◌, ℕ, zero, suc, ◌+◌, ◌-◌, ◌*◌, ◌^◌, ◌≤◌, ◌<◌, arith, refl, Bool, true, false, cond, List, [], ◌∷◌, get_or}
 use Rattle.std.specs.Prelude.{ℤ, pos, unsigned_abs}
 use Rattle.std.proofs.lemmas.Int.{ints}
 use Rattle.std.proofs.lemmas.Bool.Decides.{nat_tests}
@@ -56,6 +56,17 @@ stage_of_place road P6 s p n = either_stage road s (pit_count road) (amount_coun
 stage_of_place road P7 s p n = each_stage road s (section_count road) (omega (arith, n.from_one, n.at_most))
 stage_of_place road P8 s p n = omega (arith, no_stage s (block_count road) (omega (arith, n.from_one, n.at_most)))
 stage_of_place road P9 s p n = each_stage road s (block_count road) (omega (arith, n.from_one, n.at_most))
+
+chosen : (b : Bool) (count p : ℕ) → IsNumber p (cond b count 0) → IsNumber p count
+chosen true count p n = n
+chosen false count p n = absurd (omega (arith, n.from_one, n.at_most))
+
+-- a place of a rule without stages, and one in each stage
+pub place_at_no_stage : (stage count p : ℕ) → IsNumber p (at_no_stage stage count) → IsNumber p count
+place_at_no_stage stage count p n = chosen _ count p n
+
+pub place_at_each_stage : (road : Road) (stage count p : ℕ) → IsNumber p (at_each_stage road stage count) → IsNumber p count
+place_at_each_stage road stage count p n = chosen _ count p n
 
 -- the rules in the order of their numbers
 abbrev pub all_rules : List Rule
