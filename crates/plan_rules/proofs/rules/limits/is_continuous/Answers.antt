@@ -1,4 +1,4 @@
-use Rattle.std.proofs.Common.{rules, FitsSigned}
+use Rattle.std.proofs.Common.{rules, FitsSigned, arith}
 use Rattle.std.specs.Int.{w128}
 use Rattle.std.proofs.lemmas.Int.{to_z-of_z}
 use Rattle.plan_rules.proofs.LogicLemmas.{both_tells}
@@ -15,3 +15,11 @@ returns c =
     both_tells _ _ _ c.both.ensures same_height same_grade
     (λ h. record { height = h.0; grade = h.1 })
     (λ r. (r.height, r.grade))
+
+pub end_height-requires-clause-segment : goal.end_height-requires-clause-segment
+end_height-requires-clause-segment c =
+    record { from_one = c.requires.segment.from_one; at_most = omega (arith, c.requires.segment.at_most) }
+
+pub end_grade-requires-clause-segment : goal.end_grade-requires-clause-segment
+end_grade-requires-clause-segment c =
+    record { from_one = c.requires.segment.from_one; at_most = omega (arith, c.requires.segment.at_most) }

@@ -38,3 +38,13 @@ pub net_volume-requires-clause-offset : goal.net_volume-requires-clause-offset
 net_volume-requires-clause-offset c =
     let offset : FitsSigned w128 c.offset_at-offset.result = search rules in
     simp to_z-of_z ((simp to_z-of_z at c.if-lies_in_slabs.ensures.width) refl)
+
+pub lies_in_slabs-requires-clause-den : goal.lies_in_slabs-requires-clause-den
+lies_in_slabs-requires-clause-den c =
+    let den : FitsSigned w128 c.args.plan.now.den = search rules in
+    simp to_z-of_z c.requires.fits.den
+
+pub net_volume-requires-clause-den : goal.net_volume-requires-clause-den
+net_volume-requires-clause-den c =
+    let den : FitsSigned w128 c.args.plan.now.den = search rules in
+    simp to_z-of_z c.requires.fits.den
