@@ -9,3 +9,8 @@ returns c =
     let den : FitsSigned w128 c.args.plan.now.den = search rules in
     let amount : FitsSigned w128 c.amount_at.result = search rules in
     rw (c.hop.ensures, c.amount_at.ensures) at (simp to_z-of_z at c.is_within.ensures)
+
+pub is_within-requires : goal.is_within-requires
+is_within-requires c =
+    let den : FitsSigned w128 c.args.plan.now.den = search rules in
+    record { den = simp to_z-of_z c.requires.fits.den }

@@ -10,3 +10,8 @@ returns c =
     let high : FitsSigned w64 c.args.road.now.grade.1 = search rules in
     let grade : FitsSigned w128 c.end_grade.result = search rules in
     rw c.end_grade.ensures at (simp to_z-of_z at c.is_within.ensures)
+
+pub is_within-requires : goal.is_within-requires
+is_within-requires c =
+    let den : FitsSigned w128 c.args.plan.now.den = search rules in
+    record { den = simp to_z-of_z c.requires.fits.den }

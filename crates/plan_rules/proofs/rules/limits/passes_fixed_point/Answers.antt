@@ -16,3 +16,8 @@ pub height_on-requires-clause-station : goal.height_on-requires-clause-station
 height_on-requires-clause-station c =
     let station : FitsSigned w64 c.fixed_point-fixed.result.station = search rules in
     simp to_z-of_z (rw c.fixed_point-fixed.ensures (c.requires.well_formed.fixed c.args.number c.requires.number).on_knots)
+
+pub is_within-requires : goal.is_within-requires
+is_within-requires c =
+    let den : FitsSigned w128 c.args.plan.now.den = search rules in
+    record { den = simp to_z-of_z c.requires.fits.den }
