@@ -26,3 +26,8 @@ pub height_on-requires-clause-station : goal.height_on-requires-clause-station
 height_on-requires-clause-station c =
     let station : FitsSigned w64 c.section-section.result.now.station = search rules in
     simp to_z-of_z (rw c.section-section.ensures (c.requires.well_formed.sections c.args.section c.requires.section).on_knots)
+
+pub ground_over-requires-clause-den : goal.ground_over-requires-clause-den
+ground_over-requires-clause-den c =
+    let den : FitsSigned w128 c.args.plan.now.den = search rules in
+    simp to_z-of_z c.requires.fits.den

@@ -15,3 +15,13 @@ returns c =
     let from = rw (simp to_z-of_z at c.scaled.ensures) at (simp to_z-of_z at c.at_most.ensures) in
     let to = rw (simp to_z-of_z at c.scaled-2.ensures) at (simp to_z-of_z at c.at_most-2.ensures) in
     both_tells _ _ _ c.both.ensures from to (λ h. record { at_least = h.0; at_most = h.1 }) (λ h. (h.at_least, h.at_most))
+
+pub scaled-requires : goal.scaled-requires
+scaled-requires c =
+    let den = c.ranges.den in
+    simp to_z-of_z c.requires.den
+
+pub scaled-requires-2 : goal.scaled-requires-2
+scaled-requires-2 c =
+    let den = c.ranges.den in
+    simp to_z-of_z c.requires.den

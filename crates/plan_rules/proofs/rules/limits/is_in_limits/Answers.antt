@@ -25,3 +25,18 @@ returns c =
     both_tells _ _ _ c.both-2.ensures two bend
     (λ h. record { height = h.0.0; grade = h.0.1; curve = h.1 })
     (λ r. ((r.height, r.grade), r.curve))
+
+pub is_within-height-requires : goal.is_within-height-requires
+is_within-height-requires c =
+    let den : FitsSigned w128 c.args.plan.now.den = search rules in
+    record { den = simp to_z-of_z c.requires.fits.den }
+
+pub is_within-grade-requires : goal.is_within-grade-requires
+is_within-grade-requires c =
+    let den : FitsSigned w128 c.args.plan.now.den = search rules in
+    record { den = simp to_z-of_z c.requires.fits.den }
+
+pub is_within-curve-requires : goal.is_within-curve-requires
+is_within-curve-requires c =
+    let den : FitsSigned w128 c.args.plan.now.den = search rules in
+    record { den = simp to_z-of_z c.requires.fits.den }

@@ -27,3 +27,8 @@ returns-clause-width c =
     let most : unsigned_abs c.thickness_of-above.result ≤ 40000000 = omega (arith, ints, c.thickness_of-above.ensures.from, c.thickness_of-above.ensures.to) in
     let within = simp to_z-of_z at c.is_within.ensures in
     λ t. omega (arith, within_width _ _ c.args.den c.args.offset 40000000 c.requires.den least most (within.0 t))
+
+pub is_within-requires : goal.is_within-requires
+is_within-requires c =
+    let den = c.ranges.den in
+    record { den = simp to_z-of_z c.requires.den }
