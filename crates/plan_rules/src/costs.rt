@@ -85,7 +85,6 @@ fn totals(road: &Road, plan: &Plan) -> CostTotals
 }
 
 /// The cost of a plan whose amounts are within their caps, over its denominator.
-#[tactic(auto, unfolding(crate::specs::Costs::cost_of))]
 pub fn cost_of(road: &Road, plan: &Plan) -> i128
     requires well_formed { IsWellFormed road.now }
     requires fits { Fits road.now plan.now }

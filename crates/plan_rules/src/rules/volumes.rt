@@ -52,7 +52,6 @@ fn lies_in_slabs(section: &Section, offset: i128, den: i128) -> bool
 }
 
 /// What is filled in a section in all stages, less what is cut.
-#[tactic(auto, using(crate::proofs::FitsLemmas::amounts_of_fits))]
 fn moved_volume(road: &Road, plan: &Plan, number: usize) -> i128
     requires well_formed { IsWellFormed road.now }
     requires fits { Fits road.now plan.now }

@@ -24,3 +24,6 @@ loop-before-preserved c =
     to_z-of_z w128 _ total
     ∙ sum_more (fill_less_cut c.args.plan.now c.args.number) c.loop-before.before (to_z w128 c.loop-before.total-bits) c.fill_less_cut.result c.plus-total.result
     c.loop-before.invariant c.fill_less_cut.ensures (simp to_z-of_z at c.plus-total.ensures)
+
+pub fill_less_cut-requires : goal.fill_less_cut-requires
+fill_less_cut-requires c = amounts_of_fits c.args.road.now c.args.plan.now c.requires.fits
