@@ -2,7 +2,7 @@ use std::alloc::{AllocError, AllocFailed};
 use std::fmt;
 
 /// Why no value was read from a text.
-#[derive(Clone, Copy, Debug, PartialEq, Eq)]
+#[derive(Clone, Copy)]
 pub enum TextErr {
     /// The number, from 1, of the first line that isn't of the form due,
     /// or of the missing line where the text ends too early.

@@ -20,9 +20,30 @@ pub(crate) fn plan(alloc: Global, road: &Road, lines: &mut Lines) -> Result<Plan
 {
     let den = denominator(alloc, lines)?;
     let pieces = pieces(alloc, road.knots.len().saturating_sub(1), lines)?;
-    let tables = tables(alloc, road, lines)?;
-    let opens = openings(alloc, road.blocks.len(), lines)?;
-    Form::short_numbers(b"end", 0).read(alloc, lines)?;
+    let tables = match tables(alloc, road, lines) {
+        Ok(tables) => tables,
+        Err(error) => {
+            drop(pieces);
+            return Err(error);
+        }
+    };
+    let opens = match openings(alloc, road.blocks.len(), lines) {
+        Ok(opens) => opens,
+        Err(error) => {
+            drop(pieces);
+            drop(tables);
+            return Err(error);
+        }
+    };
+    match Form::short_numbers(b"end", 0).read(alloc, lines) {
+        Ok(nothing) => drop(nothing),
+        Err(error) => {
+            drop(pieces);
+            drop(tables);
+            drop(opens);
+            return Err(error);
+        }
+    }
     Ok(Plan {
         den,
         pieces,
@@ -43,6 +64,7 @@ pub(crate) fn whole_plan(alloc: Global, road: &Road, bytes: &[u8]) -> Result<Pla
     let mut lines = Lines::over(bytes);
     let plan = plan(alloc, road, &mut lines)?;
     if lines.next().is_some() {
+        drop(plan);
         return Err(TextErr::Bad {
             line: lines.number(),
         });
@@ -56,7 +78,9 @@ fn denominator(alloc: Global, lines: &mut Lines) -> Result<i128, TextErr>
     ensures of_source { IsOfSource lines.old }
 {
     let numbers = Form::denominator().read(alloc, lines)?;
-    Ok(numbers.as_slice()[0])
+    let den = numbers.as_slice()[0];
+    drop(numbers);
+    Ok(den)
 }
 
 #[tactic(auto, unfolding(crate::specs::inside::PlanReading::piece_due))]
@@ -64,12 +88,14 @@ fn piece(alloc: Global, lines: &mut Lines) -> Result<Piece, TextErr>
     ensures { Gives (piece_due lines.old) result lines.new }
 {
     let numbers = Form::short_numbers(b"piece", 3).read(alloc, lines)?;
-    let numbers = numbers.as_slice();
-    Ok(Piece {
-        a: numbers[0],
-        b: numbers[1],
-        c: numbers[2],
-    })
+    let heights = numbers.as_slice();
+    let piece = Piece {
+        a: heights[0],
+        b: heights[1],
+        c: heights[2],
+    };
+    drop(numbers);
+    Ok(piece)
 }
 
 fn pieces(alloc: Global, count: usize, lines: &mut Lines) -> Result<Listed<Piece>, TextErr>
