@@ -8,7 +8,7 @@ use Rattle.plan_text.specs.declared.rows.Tables.{Tables}
 use Rattle.plan_text.specs.inside.LineReading.{Read, then_read, ◌>>=◌, give, repeat_due, Gives}
 use Rattle.plan_text.specs.declared.error.TextErr.{TextErr}
 use Rattle.plan_text.specs.declared.error.TextErr.TheVariants.{Bad, NoMemory}
-use Rattle.plan_text.specs.inside.PlanReading.{stage_due, tables_by_stage, tables_due}
+use Rattle.plan_text.specs.inside.PlanReading.{stage_due, tables_by_stage, tables_due, last_row_or, last_row}
 
 abbrev pub with_front : {A : Type 0} → List A → Result (List A × Reading) ℕ → Result (List A × Reading) ℕ
 with_front front (Err line) = Err line
@@ -75,3 +75,11 @@ stages_stop road cut fill right left roads n m lines line e h =
 pub stages_gives : (road : Road) (cut fill right left roads : List (List ℤ)) (start lines now : Reading) (n m : ℕ) (e : TextErr) → tables_due road start ≡ with_stages cut fill right left roads (repeat_due n (stage_due road) lines) → n ≡ suc m → Gives (stage_due road lines) (Err e) now → Gives {A = Tables} (tables_due road start) (Err e) now
 stages_gives road cut fill right left roads start lines now n m (Bad line) i e g = i ∙ stages_stop road cut fill right left roads n m lines line e g
 stages_gives road cut fill right left roads start lines now n m NoMemory i e g = tt
+
+last_row_or-is : (first row : List ℤ) (front : List (List ℤ)) → last_row_or first (front ++ (row ∷ [])) ≡ row
+last_row_or-is first row [] = refl
+last_row_or-is first row (next ∷ front) = last_row_or-is next row front
+
+-- the last row is the one that was put at the end
+pub last_row_is : (before after : List (List ℤ)) (row : List ℤ) → after ≡ before ++ (row ∷ []) → last_row after ≡ row
+last_row_is before after row e = ap last_row e ∙ last_row_or-is [] row before

@@ -1,12 +1,14 @@
-ghost use Rattle.std.specs.Prelude.{◌≡◌, ◌-◌, length};
+ghost use Rattle.std.specs.Prelude.{◌≡◌, ◌-◌, length, OnOk};
 ghost use Rattle.text_parts.specs.Lines.{IsOfSource};
-ghost use Rattle.plan_text.specs.inside.LineReading.{Gives, repeat_due};
+ghost use Rattle.plan_text.specs.LineForms.{short_numbers};
+ghost use Rattle.plan_text.specs.inside.LineReading.{Gives, Leaves, numbers_due, repeat_due};
 ghost use Rattle.plan_text.specs.inside.PlanReading.{plan_of_text, GivesPlan};
 ghost use Rattle.plan_text.specs.inside.PlanReading.{den_due, piece_due, stage_due, tables_due, opens_due, plan_due};
+ghost use Rattle.plan_text.specs.inside.PlanReading.{last_row, last_stage, HasOneMore};
 
 use crate::error::TextErr;
 use crate::form::Form;
-use crate::rows::{Stage, Tables};
+use crate::rows::{Rows, Tables};
 use plan_rules::{Piece, Plan};
 use road_types::{Listed, Road};
 use std::alloc::Global;
@@ -108,48 +110,67 @@ fn pieces(alloc: Global, count: usize, lines: &mut Lines) -> Result<Listed<Piece
     Ok(Listed::new(pieces))
 }
 
+/// Reads a row of so many numbers behind a keyword, and puts it at the end of a table.
+fn row(
+    alloc: Global,
+    keyword: &[u8],
+    count: usize,
+    table: &mut Vec<Listed<i128>>,
+    lines: &mut Lines,
+) -> Result<(), TextErr>
+    ensures due { Leaves (numbers_due (short_numbers keyword.now count) lines.old) result (last_row table.new.items) lines.new }
+    ensures more { OnOk result (HasOneMore table.old.items table.new.items) }
+{
+    let row = Form::short_numbers(keyword, count).read(alloc, lines)?;
+    table.push(row)?;
+    Ok(())
+}
+
+/// Reads the five rows of a stage, each to the end of its table.
 #[tactic(auto, unfolding(crate::specs::inside::PlanReading::stage_due))]
-fn stage(alloc: Global, road: &Road, lines: &mut Lines) -> Result<Stage, TextErr>
-    ensures { Gives (stage_due road.now lines.old) result lines.new }
+fn stage(alloc: Global, road: &Road, rows: &mut Rows, lines: &mut Lines) -> Result<(), TextErr>
+    ensures due { Leaves (stage_due road.now lines.old) result (last_stage rows.new) lines.new }
+    ensures cut { OnOk result (HasOneMore rows.old.cut.items rows.new.cut.items) }
+    ensures fill { OnOk result (HasOneMore rows.old.fill.items rows.new.fill.items) }
+    ensures right { OnOk result (HasOneMore rows.old.right.items rows.new.right.items) }
+    ensures left { OnOk result (HasOneMore rows.old.left.items rows.new.left.items) }
+    ensures roads { OnOk result (HasOneMore rows.old.roads.items rows.new.roads.items) }
 {
     let sections = road.sections.len();
     let hops = sections.saturating_sub(1);
-    let cut = Form::short_numbers(b"cut", sections).read(alloc, lines)?;
-    let fill = Form::short_numbers(b"fill", sections).read(alloc, lines)?;
-    let right = Form::short_numbers(b"right", hops).read(alloc, lines)?;
-    let left = Form::short_numbers(b"left", hops).read(alloc, lines)?;
-    let roads = Form::short_numbers(b"roads", road.roads.len()).read(alloc, lines)?;
-    Ok(Stage {
-        cut,
-        fill,
-        right,
-        left,
-        roads,
-    })
+    row(alloc, b"cut", sections, &mut rows.cut, lines)?;
+    row(alloc, b"fill", sections, &mut rows.fill, lines)?;
+    row(alloc, b"right", hops, &mut rows.right, lines)?;
+    row(alloc, b"left", hops, &mut rows.left, lines)?;
+    row(alloc, b"roads", road.roads.len(), &mut rows.roads, lines)
 }
 
+/// Reads the five tables of amounts, stage by stage.
 fn tables(alloc: Global, road: &Road, lines: &mut Lines) -> Result<Tables, TextErr>
     ensures { Gives (tables_due road.now lines.old) result lines.new }
 {
-    let mut cut = Vec::new(alloc);
-    let mut fill = Vec::new(alloc);
-    let mut right = Vec::new(alloc);
-    let mut left = Vec::new(alloc);
-    let mut roads = Vec::new(alloc);
+    let mut rows = Rows {
+        cut: Vec::new(alloc),
+        fill: Vec::new(alloc),
+        right: Vec::new(alloc),
+        left: Vec::new(alloc),
+        roads: Vec::new(alloc),
+    };
     for _turn in 0..road.stages {
-        let rows = stage(alloc, road, lines)?;
-        cut.push(rows.cut)?;
-        fill.push(rows.fill)?;
-        right.push(rows.right)?;
-        left.push(rows.left)?;
-        roads.push(rows.roads)?;
+        match stage(alloc, road, &mut rows, lines) {
+            Ok(()) => (),
+            Err(error) => {
+                drop(rows);
+                return Err(error);
+            }
+        }
     }
     Ok(Tables {
-        cut: Listed::new(cut),
-        fill: Listed::new(fill),
-        right: Listed::new(right),
-        left: Listed::new(left),
-        roads: Listed::new(roads),
+        cut: Listed::new(rows.cut),
+        fill: Listed::new(rows.fill),
+        right: Listed::new(rows.right),
+        left: Listed::new(rows.left),
+        roads: Listed::new(rows.roads),
     })
 }
 

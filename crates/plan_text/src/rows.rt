@@ -10,6 +10,16 @@ pub(crate) struct Stage {
     pub(crate) roads: Listed<i128>,
 }
 
+/// The rows of the five tables that were read so far, each by stage.
+#[derive(Drop)]
+pub(crate) struct Rows {
+    pub(crate) cut: Vec<Listed<i128>>,
+    pub(crate) fill: Vec<Listed<i128>>,
+    pub(crate) right: Vec<Listed<i128>>,
+    pub(crate) left: Vec<Listed<i128>>,
+    pub(crate) roads: Vec<Listed<i128>>,
+}
+
 /// The five tables of amounts of a plan, each by stage.
 #[derive(Drop)]
 pub(crate) struct Tables {

@@ -55,3 +55,12 @@ abbrev pub Gives : {A : Type 0} → Result (A × Reading) ℕ → Result A TextE
 Gives due (Ok value) lines = due ≡ Ok (value, lines)
 Gives due (Err (Bad line)) lines = due ≡ Err line
 Gives due (Err NoMemory) lines = Unit {0}
+
+-- an answer with this value
+abbrev pub with_value : {A B : Type 0} → A → Result B TextErr → Result A TextErr
+with_value value (Ok done) = Ok value
+with_value value (Err error) = Err error
+
+-- an answer says that what was due is this value, which stands elsewhere
+abbrev pub Leaves : {A B : Type 0} → Result (A × Reading) ℕ → Result B TextErr → A → Reading → Type 0
+Leaves due result value lines = Gives due (with_value value result) lines

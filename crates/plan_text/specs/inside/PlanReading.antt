@@ -1,5 +1,5 @@
 -- The plan that the lines at the front spell, form after form, and the plan whose text some bytes are.
-use Rattle.std.specs.Prelude.{ℕ, ◌≡◌, ◌+◌, ◌-◌, List, [], ◌∷◌, map, ℤ, pos, codes, slice_index_or, unsigned_abs, Result, Ok, Err}
+use Rattle.std.specs.Prelude.{ℕ, ◌≡◌, ◌+◌, ◌-◌, List, [], ◌∷◌, ◌++◌, map, ℤ, pos, codes, slice_index_or, unsigned_abs, Result, Ok, Err}
 use Rattle.text_parts.specs.Lines.{TextLine, Reading, lines_of}
 use Rattle.road_types.specs.declared.road.Road.{Road}
 use Rattle.road_types.specs.Road.{section_count, segment_count, access_count, block_count}
@@ -9,6 +9,7 @@ use Rattle.plan_text.specs.declared.error.TextErr.{TextErr}
 use Rattle.plan_text.specs.declared.error.TextErr.TheVariants.{Bad, NoMemory}
 use Rattle.plan_text.specs.LineForms.{short_numbers, den_form, piece_form, opens_form, end_form}
 use Rattle.plan_text.specs.inside.LineReading.{Read, ◌>>=◌, give, numbers_due, repeat_due}
+use Rattle.plan_text.specs.declared.rows.Rows.{Rows}
 use Rattle.plan_text.specs.declared.rows.Stage.{Stage}
 use Rattle.plan_text.specs.declared.rows.Tables.{Tables}
 
@@ -43,6 +44,24 @@ stage_due road = do
   left ← numbers_due (short_numbers (codes "left") (section_count road - 1))
   roads ← numbers_due (short_numbers (codes "roads") (access_count road))
   give (record { cut = cut; fill = fill; right = right; left = left; roads = roads })
+
+-- the last of some rows, or this one
+abbrev pub last_row_or : List ℤ → List (List ℤ) → List ℤ
+last_row_or row [] = row
+last_row_or row (next ∷ rows) = last_row_or next rows
+
+-- the last of some rows
+abbrev pub last_row : List (List ℤ) → List ℤ
+last_row rows = last_row_or [] rows
+
+-- a table with one row more at its end
+abbrev pub HasOneMore : List (List ℤ) → List (List ℤ) → Type 0
+HasOneMore before after = after ≡ before ++ (last_row after ∷ [])
+
+-- the stage whose rows were read last
+abbrev pub last_stage : Rows → Stage
+last_stage rows =
+    record { cut = last_row rows.cut.items; fill = last_row rows.fill.items; right = last_row rows.right.items; left = last_row rows.left.items; roads = last_row rows.roads.items }
 
 -- the tables whose rows these are
 abbrev pub tables_by_stage : List Stage → Tables

@@ -6,4 +6,4 @@ use Rattle.plan_text.proofs.read.tables.Given as goal
 
 abbrev pub invariant-loop-turn : goal.invariant-loop-turn
 invariant-loop-turn l =
-    tables_due l.road l.initial.lines ≡ with_stages l.cut.items l.fill.items l.right.items l.left.items l.roads.items (repeat_due (l.road.stages - l._turn) (stage_due l.road) l.lines)
+    tables_due l.road l.initial.lines ≡ with_stages l.rows.cut.items l.rows.fill.items l.rows.right.items l.rows.left.items l.rows.roads.items (repeat_due (l.road.stages - l._turn) (stage_due l.road) l.lines)
