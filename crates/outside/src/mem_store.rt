@@ -4,6 +4,7 @@ ghost use Rattle.std.specs.FinMap.{empty, insert, get};
 ghost use Rattle.outside.specs.Calls.{FailsNext, next_call};
 ghost use Rattle.outside.specs.MemStore.{room_with};
 ghost use Rattle.outside.specs.Faults.{one_more};
+ghost use Rattle.outside.specs.inside.Entry.{files_of};
 ghost use Rattle.outside.specs.MemStore.{FitsRoom, LacksRoom};
 
 use crate::calls::{count_call, count_fault, fails_at};
@@ -131,10 +132,7 @@ impl Store for MemStore {
             count_fault(&mut self.read_faults);
             return Err(StoreErr::Failed);
         }
-        let Some(bytes) = file_of(&self.entries, name) else {
-            return Err(StoreErr::Missing);
-        };
-        Ok(Vec::from_slice(alloc, &bytes[..most.min(bytes.len())])?)
+        first_bytes(alloc, &self.entries, name, most)
     }
 
     /// Fails exactly where its call is one of those that fail, or the bytes don't fit the room made
@@ -164,4 +162,22 @@ impl Store for MemStore {
             Err(StoreErr::Failed)
         }
     }
+}
+
+// The first `most` bytes of the named file, or all where it is shorter. `Missing` where no file has the name.
+fn first_bytes(
+    alloc: Global,
+    entries: &[Entry],
+    name: &str,
+    most: usize,
+) -> Result<Vec<u8>, StoreErr>
+    ensures bytes { IfOk result
+        (λ bytes. option_map (take most) (get (files_of entries.now) name.now) ≡ Some bytes.items) }
+    ensures missing { IsErrOf result StoreErr.Missing ↔ (get (files_of entries.now) name.now ≡ None) }
+    ensures never_failed { IsErrOf result StoreErr.Failed → ⊥ }
+{
+    let Some(bytes) = file_of(entries, name) else {
+        return Err(StoreErr::Missing);
+    };
+    Ok(Vec::from_slice(alloc, &bytes[..most.min(bytes.len())])?)
 }
