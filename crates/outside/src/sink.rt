@@ -4,7 +4,7 @@ ghost use Rattle.outside.specs.Faults.{HasRisen};
 ghost use Rattle.outside.specs.Written.{GrewBy, GrewByPrefix};
 
 /// A put failed, and the sink counted a fault.
-#[derive(Clone, Copy, Debug, PartialEq, Eq)]
+#[derive(Clone, Copy)]
 pub struct SinkFailed;
 
 /// What takes bytes in order, and counts its faults.

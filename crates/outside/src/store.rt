@@ -7,7 +7,7 @@ ghost use Rattle.outside.specs.Files.{Files, FirstBytes, LacksFile, KeepsOrCuts,
 use std::alloc::{AllocError, Global};
 
 /// Why a call of a store gave no answer.
-#[derive(Clone, Copy, Debug, PartialEq, Eq)]
+#[derive(Clone, Copy)]
 pub enum StoreErr {
     /// No file has the name.
     Missing,
