@@ -3,3 +3,4 @@ pub mod SlabsLemmas
 pub mod EachLemmas
 pub mod RecordsLemmas
 pub mod TableLemmas
+pub mod ProgressLemmas
