@@ -4,3 +4,4 @@ pub mod EachLemmas
 pub mod RecordsLemmas
 pub mod TableLemmas
 pub mod ProgressLemmas
+pub mod PricesLemmas

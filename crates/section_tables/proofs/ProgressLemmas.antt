@@ -1,5 +1,5 @@
 -- What one more read tells of how far a reader has come in a table.
-use Rattle.std.proofs.Common.{Bor, ◌≡◌, ◌∙◌, ℕ, ◌<◌, true, false, List, [], ◌∷◌, ◌++◌, Option, Some, None, Result, Ok, Err, inl, ap, sym, refl}
+use Rattle.std.proofs.Common.{Bor, ◌≡◌, ◌∙◌, ℕ, ◌<◌, true, false, List, [], ◌∷◌, ◌++◌, Some, None, Result, Ok, Err, inl, ap, sym, refl}
 use Rattle.csv.specs.Reading.{Reached, ReadRecord, Ready, RowStep, default_config, records, source_of, reader_config, reader_state, reader_trim, took_first}
 use Rattle.csv.specs.Records.{fields_of}
 use Rattle.csv.specs.declared.reader.Reader.{Reader}
@@ -12,7 +12,6 @@ use Rattle.csv.specs.declared.reader.Trim.TheVariants as trim
 use Rattle.csv.proofs.ReadFacts.{rows-end, rows-more}
 use Rattle.road_types.specs.declared.road.Section.{Section}
 use Rattle.section_tables.specs.declared.error.TableErr.{TableErr}
-use Rattle.section_tables.specs.declared.error.TableErr.TheVariants.{NoMemory}
 use Rattle.section_tables.specs.Steps.{MayAnswer}
 use Rattle.section_tables.specs.Tables.{is_header, section_of, sections_in}
 use Rattle.section_tables.specs.inside.Progress.{known, HasRead, IsUnderHeader, HasPut, StopsAt}

@@ -1,9 +1,10 @@
 // Records: the first one, which names the columns, and those of sections.
-ghost use Rattle.std.specs.Prelude.{◌≡◌, length, ◌==◌};
+ghost use Rattle.std.specs.Prelude.{◌≡◌, length, ◌==◌, IfOk};
 ghost use Rattle.csv.specs.Records.{fields_of, field_at};
 ghost use Rattle.road_types.specs.RecordFaults.{is_station, is_height, is_cost, is_cap};
 ghost use Rattle.section_tables.specs.Steps.{MayAnswer};
 ghost use Rattle.section_tables.specs.Cells.{number_in, slabs_of};
+ghost use Rattle.section_tables.specs.inside.Prices.{prices_of, ArePrices};
 ghost use Rattle.section_tables.specs.Tables.{cell_at, section_of, has_name, names_places, names_prices, is_header, cell_count};
 
 use crate::TableErr;
@@ -106,6 +107,19 @@ fn cap_at(row: &ByteRecord, place: usize) -> Result<i64, TableErr>
     }
 }
 
+/// The costs of cut and of fill, and the caps of both.
+#[tactic(auto, unfolding(crate::specs::inside::Prices::prices_of))]
+fn prices(row: &ByteRecord) -> Result<(i64, i64, i64, i64), TableErr>
+    ensures found { IfOk result (ArePrices (fields_of row.now)) }
+    ensures due { MayAnswer result (prices_of (fields_of row.now)) }
+{
+    let cut_cost = cost_at(row, 4)?;
+    let fill_cost = cost_at(row, 5)?;
+    let cut_max = cap_at(row, 6)?;
+    let fill_max = cap_at(row, 7)?;
+    Ok((cut_cost, fill_cost, cut_max, fill_max))
+}
+
 /// The section of a record.
 #[tactic(auto, unfolding(crate::specs::Tables::section_of))]
 pub(crate) fn section(alloc: Global, row: &ByteRecord) -> Result<Section, TableErr>
@@ -114,14 +128,32 @@ pub(crate) fn section(alloc: Global, row: &ByteRecord) -> Result<Section, TableE
     if !has_all_columns(row) {
         return Err(TableErr::Refused);
     }
+    let station = station_at(row, 0)?;
+    let ground = height_at(row, 1)?;
+    let cut = slabs_at(alloc, row, 2)?;
+    let fill = match slabs_at(alloc, row, 3) {
+        Ok(fill) => fill,
+        Err(error) => {
+            drop(cut);
+            return Err(error);
+        }
+    };
+    let (cut_cost, fill_cost, cut_max, fill_max) = match prices(row) {
+        Ok(prices) => prices,
+        Err(error) => {
+            drop(cut);
+            drop(fill);
+            return Err(error);
+        }
+    };
     Ok(Section {
-        station: station_at(row, 0)?,
-        ground: height_at(row, 1)?,
-        cut: slabs_at(alloc, row, 2)?,
-        fill: slabs_at(alloc, row, 3)?,
-        cut_cost: cost_at(row, 4)?,
-        fill_cost: cost_at(row, 5)?,
-        cut_max: cap_at(row, 6)?,
-        fill_max: cap_at(row, 7)?,
+        station,
+        ground,
+        cut,
+        fill,
+        cut_cost,
+        fill_cost,
+        cut_max,
+        fill_max,
     })
 }
