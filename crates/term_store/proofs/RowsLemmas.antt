@@ -162,6 +162,15 @@ module _ {X : Type 0} (s : HeldRows X) (n width : ℕ) (xs : List (HeldRow X)) (
         (len ∙ ap (λ (t : HeldRows X). t.room) is)
         (ap (λ v. min v w.room) (least ∙ ap (λ (t : HeldRows X). t.width) is))
 
+  -- where a row is free, the list has a place behind those in use
+  pub free_row : n ≤ length xs → length s.rows < s.room → n < length xs
+  free_row count free =
+      let long : length (map (λ (r : HeldRow X). r.terms) (set xs p a)) ≡ length xs = length-map (set xs p a) (λ r. r.terms) ∙ length-set xs p a in
+      let rows : length s.rows ≡ min n (length (map (λ (r : HeldRow X). r.terms) (set xs p a))) =
+      ap (λ (t : HeldRows X). length t.rows) (sym is) ∙ length-take n (map (λ r. r.terms) (set xs p a)) in
+      let room : s.room ≡ length xs = ap (λ (t : HeldRows X). t.room) (sym is) in
+      omega (arith, long, rows, room, count, free)
+
   -- a row that was written behind those in use is the last one
   pub after_push : (ys : List (HeldRow X)) (b w : HeldRow X) (q : ℕ) → n ≤ length xs → length s.rows < s.room
       → set ys n b ≡ set xs p a → q ≡ n
@@ -176,14 +185,8 @@ module _ {X : Type 0} (s : HeldRows X) (n width : ℕ) (xs : List (HeldRow X)) (
       long : length (map (λ (r : HeldRow X). r.terms) (set xs p a)) ≡ length xs
       long = length-map (set xs p a) (λ r. r.terms) ∙ length-set xs p a
 
-      rows : length s.rows ≡ min n (length (map (λ (r : HeldRow X). r.terms) (set xs p a)))
-      rows = ap (λ (t : HeldRows X). length t.rows) (sym is) ∙ length-take n (map (λ r. r.terms) (set xs p a))
-
-      room : s.room ≡ length xs
-      room = ap (λ (t : HeldRows X). t.room) (sym is)
-
       free_place : n < length (map (λ (r : HeldRow X). r.terms) (set xs p a))
-      free_place = omega (arith, long, rows, room, count, free)
+      free_place = subst (λ (k : ℕ). n < k) (sym long) (free_row count free)
 
   -- the width stays where the row kept apart is wide enough
   pub same_width : (u r : ℕ) → u ≡ min width a.room → min width a.room ≤ r → min u r ≡ s.width

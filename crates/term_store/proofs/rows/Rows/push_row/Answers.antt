@@ -1,7 +1,15 @@
-use Rattle.std.proofs.Common.{ap, ◌∙◌, ◌++◌, ◌∷◌, ◌+◌, [], min}
+use Rattle.std.proofs.Common.{ap, ◌∙◌, ◌++◌, ◌∷◌, ◌+◌, [], min, arith}
 use Rattle.term_store.specs.inside.Lending.{seen}
-use Rattle.term_store.proofs.RowsLemmas.{after_push, same_width, wide, fit_after_push}
+use Rattle.term_store.proofs.RowsLemmas.{after_push, free_row, in_order_again, same_width, wide, fit_after_push}
 use Rattle.term_store.proofs.rows.Rows.push_row.Goals as goal
+
+pub invariant_of-self : goal.invariant_of-self
+invariant_of-self g c =
+    let free = free_row _ _ _ _ _ _ c.self.view_is c.self.invariant.0 c.requires.free in
+    in_order_again c.self.inside.width _ _ c.self.inside.kept c.keep_apart.new.kept c.self.invariant.1.1 c.keep_apart.ensures.rooms
+    (c.self.inside.count + 1) c.self.inside.count _ _ (omega (arith, free)) free
+    c.keep_apart.ensures.len c.keep_apart.ensures.place
+    (c.min-self-inside.ensures ∙ ap (min c.self.inside.width) c.room.ensures)
 
 pub returns-clause-rows : goal.returns-clause-rows
 returns-clause-rows g c =

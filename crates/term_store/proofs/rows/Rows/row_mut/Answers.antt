@@ -1,6 +1,13 @@
 use Rattle.std.proofs.Common.{ap, ◌∙◌, ◌≤◌, min, refl, sym}
-use Rattle.term_store.proofs.RowsLemmas.{apart_terms, after_loan, wide, keeps_width}
+use Rattle.term_store.proofs.RowsLemmas.{named, apart_terms, after_loan, wide, keeps_width, in_order_again}
 use Rattle.term_store.proofs.rows.Rows.row_mut.Goals as goal
+
+pub invariant_of-self-lent : goal.invariant_of-self-lent
+invariant_of-self-lent g c w =
+    in_order_again c.self.inside.width _ _ c.self.inside.kept c.keep_apart.new.kept c.self.invariant.1.1 c.keep_apart.ensures.rooms
+    _ c.args.i _ _ c.self.invariant.0 (named _ _ _ _ _ _ c.self.view_is c.args.i c.requires).1
+    c.keep_apart.ensures.len c.keep_apart.ensures.place
+    (c.min-self-inside.ensures ∙ ap (min c.self.inside.width) c.room.ensures)
 
 pub returns : goal.returns
 returns g c =
