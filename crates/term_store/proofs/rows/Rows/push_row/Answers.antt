@@ -1,7 +1,12 @@
-use Rattle.std.proofs.Common.{ap, ◌∙◌, ◌++◌, ◌∷◌, ◌+◌, [], min, arith}
+use Rattle.std.proofs.Common.{ap, ◌∙◌, ◌++◌, ◌∷◌, ◌+◌, ◌≤◌, [], min, sym, arith}
 use Rattle.term_store.specs.inside.Lending.{seen}
 use Rattle.term_store.proofs.RowsLemmas.{after_push, free_row, in_order_again, same_width, wide, fit_after_push}
 use Rattle.term_store.proofs.rows.Rows.push_row.Goals as goal
+
+pub refill-requires : goal.refill-requires
+refill-requires g c =
+    let room : c.args.self.now.width ≤ c.keep_apart.new.kept.room = rw (sym c.self.view_is) (wide c.self.inside.width _ _ c.self.inside.kept c.keep_apart.new.kept c.self.invariant.1.1 c.keep_apart.ensures.rooms).0 in
+    omega (arith, room, c.requires.fits)
 
 pub invariant_of-self : goal.invariant_of-self
 invariant_of-self g c =
