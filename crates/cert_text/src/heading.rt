@@ -19,14 +19,14 @@ use std::alloc::Global;
 use text_parts::{Line, Lines, Words};
 
 /// A plan and its stated cost.
-#[derive(Debug, Drop)]
+#[derive(Drop)]
 pub struct PricedPlan {
     pub plan: Plan,
     pub cost: Frac,
 }
 
 /// What stands before the tree of a certificate: the plan with its cost and the bound, where they are stated.
-#[derive(Debug, Drop)]
+#[derive(Drop)]
 pub struct Heading {
     pub planned: Option<PricedPlan>,
     pub bound: Option<Frac>,
@@ -45,8 +45,13 @@ pub fn read_heading(
 {
     next_keyword(b"certificate", lines)?;
     let planned = planned(alloc, road, is_unplanned(bytes), lines)?;
-    let bound = next_bound(lines)?;
-    Ok(Heading { planned, bound })
+    match next_bound(lines) {
+        Ok(bound) => Ok(Heading { planned, bound }),
+        Err(error) => {
+            drop(planned);
+            Err(error)
+        }
+    }
 }
 
 /// Reads the last line.
@@ -95,8 +100,13 @@ fn priced(alloc: Global, road: &Road, lines: &mut Lines) -> Result<PricedPlan, T
     ensures { Gives (priced_due road.now lines.old) result lines.new }
 {
     let plan = read_plan(alloc, road, lines)?;
-    let cost = next_cost(lines)?;
-    Ok(PricedPlan { plan, cost })
+    match next_cost(lines) {
+        Ok(cost) => Ok(PricedPlan { plan, cost }),
+        Err(error) => {
+            drop(plan);
+            Err(error)
+        }
+    }
 }
 
 /// Reads the next line, which is to be a keyword alone.

@@ -50,9 +50,21 @@ fn whole(alloc: Global, road: &Road, bytes: &[u8]) -> Result<Cert, TextErr>
 {
     let mut lines = Lines::over(bytes);
     let heading = read_heading(alloc, road, bytes, &mut lines)?;
-    let tree = tree_end(alloc, road, &mut lines)?;
-    read_nothing(&mut lines)?;
-    Ok(cert_of(heading, tree))
+    let tree = match tree_end(alloc, road, &mut lines) {
+        Ok(tree) => tree,
+        Err(error) => {
+            drop(heading);
+            return Err(error);
+        }
+    };
+    match read_nothing(&mut lines) {
+        Ok(()) => Ok(cert_of(heading, tree)),
+        Err(error) => {
+            drop(heading);
+            drop(tree);
+            Err(error)
+        }
+    }
 }
 
 /// What stands before the tree, and the tree.
@@ -100,8 +112,13 @@ fn tree_end(alloc: Global, road: &Road, lines: &mut Lines) -> Result<Tree, TextE
     ensures { GivesTree (tree_end_due road.now lines.old) result lines.new }
 {
     let tree = whole_tree(alloc, road, lines)?;
-    read_end(lines)?;
-    Ok(tree)
+    match read_end(lines) {
+        Ok(()) => Ok(tree),
+        Err(error) => {
+            drop(tree);
+            Err(error)
+        }
+    }
 }
 
 /// Reads a tree on as many levels as one may have.
@@ -145,8 +162,13 @@ fn tree(
         Step::Dead => Ok(dead_leaf(alloc, leaf)?),
         Step::Split { split } => {
             let first = tree(alloc, level - 1, reader, lines, leaf)?;
-            let second = tree(alloc, level - 1, reader, lines, leaf)?;
-            Ok(parted(alloc, split, first, second)?)
+            match tree(alloc, level - 1, reader, lines, leaf) {
+                Ok(second) => Ok(parted(alloc, split, first, second)?),
+                Err(error) => {
+                    drop(first);
+                    Err(error)
+                }
+            }
         }
         Step::End => unreachable!(),
     }

@@ -86,18 +86,16 @@ tree-requires-in-Split t c =
       ),
     )
 
-pub returns-in_err-second-in-Split-clause-tree : goal.returns-in_err-second-in-Split-clause-tree
-returns-in_err-second-in-Split-clause-tree t c =
+pub returns-in-Err-clause-tree : goal.returns-in-Err-clause-tree
+returns-in-Err-clause-tree t c =
     let node = subst (λ (s : Step). TakesNode c.args.reader.now.rows c.args.level (drop 1 c.args.reader.now.levels) c.args.lines.now c.next_node.new.lines s c.args.leaf.now.mults c.next_node.new.leaf.mults c.next_node.new.reader.levels) c.in-Split.is c.in_ok-step.ensures.node in
-    let p = err_from_is_err_and c.from_residual-in_err-second-in-Split.result c.from_residual-in_err-second-in-Split.ensures.1 in
-    rw (p.1, p.2)
-    (second_failed c.args.reader.now.rows c.args.level (drop 1 c.args.reader.now.levels) c.args.lines.now c.next_node.new.lines c.tree.new.lines c.tree-in-Split.new.lines c.tree-in-Split.new.lines c.in-Split.split c.args.leaf.now.mults c.next_node.new.leaf.mults c.next_node.new.reader.levels (box_tree_of c.in_ok-first-in-Split.first) c.in_err-second-in-Split.field-0.0 node
+    second_failed c.args.reader.now.rows c.args.level (drop 1 c.args.reader.now.levels) c.args.lines.now c.next_node.new.lines c.tree.new.lines c.tree-in-Split.new.lines c.tree-in-Split.new.lines c.in-Split.split c.args.leaf.now.mults c.next_node.new.leaf.mults c.next_node.new.reader.levels (box_tree_of c.in_ok-first-in-Split.first) c.in-Err.error node
     (subst (λ rows. tree_due rows (c.args.level - 1) c.next_node.new.lines ≡ Ok (box_tree_of c.in_ok-first-in-Split.first, c.tree.new.lines)) c.next_node.ensures.rows c.in_ok-first-in-Split.ensures.tree)
-    (subst (λ rows. GivesTree (tree_due rows (c.args.level - 1) c.tree.new.lines) (Err c.in_err-second-in-Split.field-0.0) c.tree-in-Split.new.lines) (c.tree.ensures.rows ∙ c.next_node.ensures.rows) c.in_err-second-in-Split.ensures.tree))
+    (subst (λ rows. GivesTree (tree_due rows (c.args.level - 1) c.tree.new.lines) (Err c.in-Err.error) c.tree-in-Split.new.lines) (c.tree.ensures.rows ∙ c.next_node.ensures.rows) c.in-Err.ensures.tree)
 
-pub returns-in_ok-parted-in-Split-clause-tree : goal.returns-in_ok-parted-in-Split-clause-tree
-returns-in_ok-parted-in-Split-clause-tree t c =
+pub returns-in_ok-parted-in-Ok-clause-tree : goal.returns-in_ok-parted-in-Ok-clause-tree
+returns-in_ok-parted-in-Ok-clause-tree t c =
     let node = subst (λ (s : Step). TakesNode c.args.reader.now.rows c.args.level (drop 1 c.args.reader.now.levels) c.args.lines.now c.next_node.new.lines s c.args.leaf.now.mults c.next_node.new.leaf.mults c.next_node.new.reader.levels) c.in-Split.is c.in_ok-step.ensures.node in
-    split_read c.args.reader.now.rows c.args.level (drop 1 c.args.reader.now.levels) c.args.lines.now c.next_node.new.lines c.tree.new.lines c.tree-in-Split.new.lines c.in-Split.split c.args.leaf.now.mults c.next_node.new.leaf.mults c.next_node.new.reader.levels (box_tree_of c.in_ok-first-in-Split.first) (box_tree_of c.in_ok-second-in-Split.second) c.in_ok-parted-in-Split.field-0 c.in_ok-parted-in-Split.ensures node
+    split_read c.args.reader.now.rows c.args.level (drop 1 c.args.reader.now.levels) c.args.lines.now c.next_node.new.lines c.tree.new.lines c.tree-in-Split.new.lines c.in-Split.split c.args.leaf.now.mults c.next_node.new.leaf.mults c.next_node.new.reader.levels (box_tree_of c.in_ok-first-in-Split.first) (box_tree_of c.in-Ok.second) c.in_ok-parted-in-Ok.field-0 c.in_ok-parted-in-Ok.ensures node
     (subst (λ rows. tree_due rows (c.args.level - 1) c.next_node.new.lines ≡ Ok (box_tree_of c.in_ok-first-in-Split.first, c.tree.new.lines)) c.next_node.ensures.rows c.in_ok-first-in-Split.ensures.tree)
-    (subst (λ rows. tree_due rows (c.args.level - 1) c.tree.new.lines ≡ Ok (box_tree_of c.in_ok-second-in-Split.second, c.tree-in-Split.new.lines)) (c.tree.ensures.rows ∙ c.next_node.ensures.rows) c.in_ok-second-in-Split.ensures.tree)
+    (subst (λ rows. tree_due rows (c.args.level - 1) c.tree.new.lines ≡ Ok (box_tree_of c.in-Ok.second, c.tree-in-Split.new.lines)) (c.tree.ensures.rows ∙ c.next_node.ensures.rows) c.in-Ok.ensures.tree)
