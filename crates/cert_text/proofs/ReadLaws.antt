@@ -1,5 +1,5 @@
 -- What a reader of whole trees and certificates gives is what is due.
-use Rattle.std.proofs.Common.{◌≡◌, ℕ, ℤ, zero, suc, ◌+◌, ◌-◌, ◌≤◌, ◌<◌, Bool, true, false, cond, Option, Some, None, Result, Ok, Err, IfOk, List, [], ◌∷◌, drop, slice_get, sym, ap, subst, ◌∙◌, arith}
+use Rattle.std.proofs.Common.{◌≡◌, ℕ, ℤ, zero, suc, ◌+◌, ◌-◌, ◌≤◌, ◌<◌, Bool, true, false, cond, Option, Some, None, Result, Ok, Err, IfOk, List, [], ◌∷◌, drop, slice_get, sym, ap, subst, ◌∙◌, arith, IfErr}
 use Rattle.text_parts.specs.Lines.{TextLine, Reading}
 use Rattle.road_types.specs.Faults.{road_fault}
 use Rattle.road_types.proofs.AcceptedRoad.{IsAccepted-from_fault}
@@ -206,3 +206,9 @@ pub refused : (road : Road) (bytes : List ℕ) (result : Result Cert TextErr) �
 refused road bytes (Ok cert) e = tt
 refused road bytes (Err (Bad line)) e = refused_line-told road bytes line e
 refused road bytes (Err NoMemory) e = tt
+
+-- a tree was made, or memory was wanting
+pub tree_made : (Made : Tree → Type 0) (due : Result (BoxTree × Reading) ℕ) (made : Result Tree TextErr) (lines : Reading) → IfOk made Made → IfErr made (λ error. error ≡ NoMemory) → ((tree : Tree) → Made tree → due ≡ Ok (box_tree_of tree, lines)) → GivesTree due made lines
+tree_made Made due (Ok tree) lines found wanting is = is tree found
+tree_made Made due (Err (Bad line)) lines found wanting is = cc
+tree_made Made due (Err NoMemory) lines found wanting is = tt

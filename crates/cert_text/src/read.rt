@@ -1,7 +1,8 @@
 // Reading a whole certificate, node by node.
-ghost use Rattle.std.specs.Prelude.{◌≡◌, ◌≤◌, ◌<◌, None, Some, drop, slice_get, IfOk};
+ghost use Rattle.std.specs.Prelude.{◌≡◌, ◌≤◌, ◌<◌, None, Some, drop, slice_get, IfOk, IfErr};
 ghost use Rattle.road_types.specs.Faults.{road_fault};
 ghost use Rattle.road_types.specs.RoadPrograms.{row_count};
+ghost use Rattle.plan_text.specs.declared.error.TextErr.TheVariants.{NoMemory};
 ghost use Rattle.plan_text.specs.Misfits.{IfBad};
 ghost use Rattle.cert_tree.specs.Trees.{low, dead, fork, box_tree_of};
 ghost use Rattle.cert_text.specs.NodeText.{most_levels};
@@ -158,12 +159,12 @@ fn tree(
 {
     let step = next_node(level, reader, lines, leaf)?;
     match step {
-        Step::Low { scale, cause } => Ok(low_leaf(alloc, scale, cause, leaf)?),
-        Step::Dead => Ok(dead_leaf(alloc, leaf)?),
+        Step::Low { scale, cause } => low_leaf(alloc, scale, cause, leaf),
+        Step::Dead => dead_leaf(alloc, leaf),
         Step::Split { split } => {
             let first = tree(alloc, level - 1, reader, lines, leaf)?;
             match tree(alloc, level - 1, reader, lines, leaf) {
-                Ok(second) => Ok(parted(alloc, split, first, second)?),
+                Ok(second) => parted(alloc, split, first, second),
                 Err(error) => {
                     drop(first);
                     Err(error)
@@ -200,8 +201,9 @@ fn low_leaf(
     scale: i128,
     cause: Option<Why>,
     leaf: &LeafBuf,
-) -> Result<Tree, AllocError>
-    ensures { IfOk result (λ tree. box_tree_of tree ≡ low scale leaf.now.mults cause) }
+) -> Result<Tree, TextErr>
+    ensures made { IfOk result (λ tree. box_tree_of tree ≡ low scale leaf.now.mults cause) }
+    ensures wanting { IfErr result (λ error. error ≡ NoMemory) }
 {
     let mults = copied(alloc, leaf)?;
     Ok(Tree::Low {
@@ -212,8 +214,9 @@ fn low_leaf(
 }
 
 /// A leaf that proves its box empty by the multipliers in the buffer.
-fn dead_leaf(alloc: Global, leaf: &LeafBuf) -> Result<Tree, AllocError>
-    ensures { IfOk result (λ tree. box_tree_of tree ≡ dead leaf.now.mults) }
+fn dead_leaf(alloc: Global, leaf: &LeafBuf) -> Result<Tree, TextErr>
+    ensures made { IfOk result (λ tree. box_tree_of tree ≡ dead leaf.now.mults) }
+    ensures wanting { IfErr result (λ error. error ≡ NoMemory) }
 {
     let mults = copied(alloc, leaf)?;
     Ok(Tree::Dead { mults })
@@ -229,8 +232,9 @@ fn copied(alloc: Global, leaf: &LeafBuf) -> Result<Listed<(u32, i128)>, AllocErr
 }
 
 /// Two trees under a split.
-fn parted(alloc: Global, split: Split, first: Tree, second: Tree) -> Result<Tree, AllocError>
-    ensures { IfOk result (λ tree. box_tree_of tree ≡ fork split (box_tree_of first) (box_tree_of second)) }
+fn parted(alloc: Global, split: Split, first: Tree, second: Tree) -> Result<Tree, TextErr>
+    ensures made { IfOk result (λ tree. box_tree_of tree ≡ fork split (box_tree_of first) (box_tree_of second)) }
+    ensures wanting { IfErr result (λ error. error ≡ NoMemory) }
 {
     let first = NodeBox::new(alloc, first)?;
     let second = NodeBox::new(alloc, second)?;
