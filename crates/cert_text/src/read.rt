@@ -236,11 +236,22 @@ fn parted(alloc: Global, split: Split, first: Tree, second: Tree) -> Result<Tree
     ensures made { IfOk result (λ tree. box_tree_of tree ≡ fork split (box_tree_of first) (box_tree_of second)) }
     ensures wanting { IfErr result (λ error. error ≡ NoMemory) }
 {
-    let first = NodeBox::new(alloc, first)?;
-    let second = NodeBox::new(alloc, second)?;
-    Ok(Tree::Split {
-        split,
-        first,
-        second,
-    })
+    let first = match NodeBox::new(alloc, first) {
+        Ok(first) => first,
+        Err(error) => {
+            drop(second);
+            return Err(error.into());
+        }
+    };
+    match NodeBox::new(alloc, second) {
+        Ok(second) => Ok(Tree::Split {
+            split,
+            first,
+            second,
+        }),
+        Err(error) => {
+            drop(first);
+            Err(error.into())
+        }
+    }
 }
