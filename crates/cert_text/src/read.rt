@@ -196,12 +196,7 @@ fn next_node(
 }
 
 /// A leaf with a scale, the multipliers in the buffer, and the cause for which it was left open, if it was.
-fn low_leaf(
-    alloc: Global,
-    scale: i128,
-    cause: Option<Why>,
-    leaf: &LeafBuf,
-) -> Result<Tree, TextErr>
+fn low_leaf(alloc: Global, scale: i128, cause: Option<Why>, leaf: &LeafBuf) -> Result<Tree, TextErr>
     ensures made { IfOk result (λ tree. box_tree_of tree ≡ low scale leaf.now.mults cause) }
     ensures wanting { IfErr result (λ error. error ≡ NoMemory) }
 {

@@ -20,14 +20,14 @@ pub returns-in-Low-clause-tree : goal.returns-in-Low-clause-tree
 returns-in-Low-clause-tree t c =
     let fits : FitsSigned w128 c.in-Low.scale = search rules in
     tree_made _ _ c.low_leaf.result c.next_node.new.lines c.low_leaf.ensures.made c.low_leaf.ensures.wanting (λ tree made.
-        low_read c.args.reader.now.rows c.args.level (drop 1 c.args.reader.now.levels) c.args.lines.now c.next_node.new.lines c.in-Low.scale c.in-Low.cause c.args.leaf.now.mults c.next_node.new.leaf.mults c.next_node.new.reader.levels tree (simp (to_z-of_z w128 c.in-Low.scale fits) at made)
-        (subst (λ (s : Step). TakesNode c.args.reader.now.rows c.args.level (drop 1 c.args.reader.now.levels) c.args.lines.now c.next_node.new.lines s c.args.leaf.now.mults c.next_node.new.leaf.mults c.next_node.new.reader.levels) c.in-Low.is c.in_ok-step.ensures.node))
+    low_read c.args.reader.now.rows c.args.level (drop 1 c.args.reader.now.levels) c.args.lines.now c.next_node.new.lines c.in-Low.scale c.in-Low.cause c.args.leaf.now.mults c.next_node.new.leaf.mults c.next_node.new.reader.levels tree (simp (to_z-of_z w128 c.in-Low.scale fits) at made)
+    (subst (λ (s : Step). TakesNode c.args.reader.now.rows c.args.level (drop 1 c.args.reader.now.levels) c.args.lines.now c.next_node.new.lines s c.args.leaf.now.mults c.next_node.new.leaf.mults c.next_node.new.reader.levels) c.in-Low.is c.in_ok-step.ensures.node))
 
 pub returns-in-Dead-clause-tree : goal.returns-in-Dead-clause-tree
 returns-in-Dead-clause-tree t c =
     tree_made _ _ c.dead_leaf.result c.next_node.new.lines c.dead_leaf.ensures.made c.dead_leaf.ensures.wanting (λ tree made.
-        dead_read c.args.reader.now.rows c.args.level (drop 1 c.args.reader.now.levels) c.args.lines.now c.next_node.new.lines c.args.leaf.now.mults c.next_node.new.leaf.mults c.next_node.new.reader.levels tree made
-        (subst (λ (s : Step). TakesNode c.args.reader.now.rows c.args.level (drop 1 c.args.reader.now.levels) c.args.lines.now c.next_node.new.lines s c.args.leaf.now.mults c.next_node.new.leaf.mults c.next_node.new.reader.levels) c.in-Dead.is c.in_ok-step.ensures.node))
+    dead_read c.args.reader.now.rows c.args.level (drop 1 c.args.reader.now.levels) c.args.lines.now c.next_node.new.lines c.args.leaf.now.mults c.next_node.new.leaf.mults c.next_node.new.reader.levels tree made
+    (subst (λ (s : Step). TakesNode c.args.reader.now.rows c.args.level (drop 1 c.args.reader.now.levels) c.args.lines.now c.next_node.new.lines s c.args.leaf.now.mults c.next_node.new.leaf.mults c.next_node.new.reader.levels) c.in-Dead.is c.in_ok-step.ensures.node))
 
 pub overflow_sub-level : goal.overflow_sub-level
 overflow_sub-level t c =
@@ -98,6 +98,6 @@ pub returns-in-Ok-clause-tree : goal.returns-in-Ok-clause-tree
 returns-in-Ok-clause-tree t c =
     let node = subst (λ (s : Step). TakesNode c.args.reader.now.rows c.args.level (drop 1 c.args.reader.now.levels) c.args.lines.now c.next_node.new.lines s c.args.leaf.now.mults c.next_node.new.leaf.mults c.next_node.new.reader.levels) c.in-Split.is c.in_ok-step.ensures.node in
     tree_made _ _ c.parted.result c.tree-in-Split.new.lines c.parted.ensures.made c.parted.ensures.wanting (λ made is.
-        split_read c.args.reader.now.rows c.args.level (drop 1 c.args.reader.now.levels) c.args.lines.now c.next_node.new.lines c.tree.new.lines c.tree-in-Split.new.lines c.in-Split.split c.args.leaf.now.mults c.next_node.new.leaf.mults c.next_node.new.reader.levels (box_tree_of c.in_ok-first-in-Split.first) (box_tree_of c.in-Ok.second) made is node
+    split_read c.args.reader.now.rows c.args.level (drop 1 c.args.reader.now.levels) c.args.lines.now c.next_node.new.lines c.tree.new.lines c.tree-in-Split.new.lines c.in-Split.split c.args.leaf.now.mults c.next_node.new.leaf.mults c.next_node.new.reader.levels (box_tree_of c.in_ok-first-in-Split.first) (box_tree_of c.in-Ok.second) made is node
     (subst (λ rows. tree_due rows (c.args.level - 1) c.next_node.new.lines ≡ Ok (box_tree_of c.in_ok-first-in-Split.first, c.tree.new.lines)) c.next_node.ensures.rows c.in_ok-first-in-Split.ensures.tree)
     (subst (λ rows. tree_due rows (c.args.level - 1) c.tree.new.lines ≡ Ok (box_tree_of c.in-Ok.second, c.tree-in-Split.new.lines)) (c.tree.ensures.rows ∙ c.next_node.ensures.rows) c.in-Ok.ensures.tree))
