@@ -6,7 +6,8 @@ ghost use Rattle.programs.specs.Limits.{IsWithinLimits, Rises};
 ghost use Rattle.safe_bounds.specs.Values.{AreMultipliers, IsMultiplier, combined, rights_value};
 ghost use Rattle.safe_bounds.specs.inside.Drawn.{AreAtMost, HaveDrawn};
 
-use algebra::{plus, times};
+use crate::products::times_word;
+use algebra::plus;
 use programs::Milp;
 use term_store::Term;
 
@@ -45,7 +46,7 @@ fn draw_row(milp: &Milp, i: usize, mult: i128, drawn: &mut [i128]) -> i128
     }
     let row = milp.row(i);
     draw_terms(row.terms(), mult, drawn);
-    times(mult, i128::from(row.right()))
+    times_word(mult, row.right())
 }
 
 /// Draws a row's terms by a multiplier.
@@ -71,5 +72,5 @@ fn draw_term(term: Term<i64>, mult: i128, drawn: &mut [i128])
     ensures width { (k : ℕ) → AreAtMost k drawn.old → AreAtMost (k + 2 ^ 103) drawn.new }
 {
     let place = term.column as usize - 1;
-    drawn[place] = plus(drawn[place], times(mult, i128::from(term.value)));
+    drawn[place] = plus(drawn[place], times_word(mult, term.value));
 }
