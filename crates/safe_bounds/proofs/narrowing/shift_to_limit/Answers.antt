@@ -1,5 +1,5 @@
-use Rattle.std.proofs.Common.{rules, arith, ◌≡◌, ◌<◌, length, replicate, to_z, of_z, ap, sym, ◌∙◌, refl}
-use Rattle.std.specs.Prelude.{ℤ, pos, FitsSigned, IsTrue, true, false, ◌↔◌}
+use Rattle.std.proofs.Common.{rules, arith, ◌≡◌, ◌<◌, length, replicate, sym, ◌∙◌, refl}
+use Rattle.std.specs.Prelude.{pos, FitsSigned, IsTrue, true, false, ◌↔◌}
 use Rattle.std.specs.Int.{w128}
 use Rattle.std.proofs.lemmas.Int.{to_z-of_z}
 use Rattle.safe_bounds.specs.Narrowing.{AreNarrow}
