@@ -44,6 +44,16 @@ push_length xs x = length-append xs (x ∷ []) ∙ omega arith
 
 -- ---- bounds
 
+pub bounds_none : {A : Type 0} (f : A → ℤ) (program : Program) (low high : List A) (has_high : List Bool) → length low ≡ 1 → length high ≡ 1 → length has_high ≡ 1 → AreBounds f program 1 low high has_high
+bounds_none f program low high has_high l h b = record {
+  low_count = l;
+  high_count = h;
+  has_high_count = b;
+  lows = λ j first last. absurd (omega arith);
+  highs = λ j first last. absurd (omega arith);
+  bounded = λ j first last. absurd (omega arith);
+}
+
 pub bounds_more : {A : Type 0} (f : A → ℤ) (program : Program) (end : ℕ) (low high : List A) (has_high : List Bool) (least greatest : A) (bounded : Bool) → AreBounds f program end low high has_high → 1 ≤ end
     → f least ≡ low_at program end → f greatest ≡ high_at program end → bounded ≡ has_high_at program end
     → AreBounds f program (end + 1) (low ++ least ∷ []) (high ++ greatest ∷ []) (has_high ++ bounded ∷ [])
