@@ -30,6 +30,14 @@ get_push_other [] x d j l = absurd (omega arith)
 get_push_other (y ∷ ys) x d zero l = refl
 get_push_other (y ∷ ys) x d (suc j) l = get_push_other ys x d j (omega arith)
 
+-- a basis with one slack more
+pub basis_more : (xs ys : List ℕ) (columns k z : ℕ) → length xs ≡ k + 1 → ys ≡ xs ++ z ∷ [] → z ≡ columns + k + 1 → ((i : ℕ) → 1 ≤ i → i ≤ k → get_or xs i 0 ≡ columns + i)
+    → (i : ℕ) → 1 ≤ i → i ≤ k + 1 → get_or ys i 0 ≡ columns + i
+basis_more xs ys columns k z size e is each i first last = ⊎_elim
+    (λ (s : length xs ≡ i). ap (λ zs. get_or zs i 0) e ∙ ap (λ j. get_or (xs ++ z ∷ []) j 0) (sym s) ∙ get_push_same xs z 0 ∙ omega arith)
+    (λ (s : length xs ≢ i). ap (λ zs. get_or zs i 0) e ∙ get_push_other xs z 0 i (omega arith) ∙ each i first (omega arith))
+    (same_or_not (length xs) i)
+
 meaning_push_same : {A : Type 0} (f : A → ℤ) (xs : List A) (x : A) → meaning_at f (xs ++ x ∷ []) (length xs) ≡ f x
 meaning_push_same f [] x = refl
 meaning_push_same f (y ∷ ys) x = meaning_push_same f ys x
