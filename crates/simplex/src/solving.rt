@@ -227,7 +227,10 @@ pub fn solve_either<N: Whole, M: Whole>(
 {
     match solve::<N>(alloc, lp, budget)? {
         LpEnd::Wide {
-            trail, op, mults, ..
+            trail,
+            op,
+            mults,
+            ..
         } => {
             drop(mults);
             match solve::<M>(alloc, lp, budget) {

@@ -105,14 +105,7 @@ impl<'a, W: Whole> Tableau<'a, W> {
         let mut low = Vec::new(alloc);
         let mut high = Vec::new(alloc);
         let mut has_high = Vec::new(alloc);
-        let filled = fill_numbers(
-            alloc,
-            milp,
-            &mut low,
-            &mut high,
-            &mut has_high,
-            &mut lines,
-        )?;
+        let filled = fill_numbers(alloc, milp, &mut low, &mut high, &mut has_high, &mut lines)?;
         match filled {
             Ok(()) => Ok(Ok(Tableau {
                 milp,
