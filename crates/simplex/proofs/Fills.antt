@@ -1,5 +1,5 @@
 -- Numbers of a program put into memory one by one.
-use Rattle.std.proofs.Common.{◌≡◌, ℕ, zero, suc, ◌+◌, ◌-◌, ◌≤◌, ◌<◌, ◌⊎◌, List, [], ◌∷◌, ◌++◌, length, get_or, Bool, false, arith, ap, sym, ◌∙◌, refl, subst, ⊎_elim, length-append}
+use Rattle.std.proofs.Common.{◌≡◌, ℕ, zero, suc, ◌+◌, ◌≤◌, ◌<◌, ◌⊎◌, List, [], ◌∷◌, ◌++◌, length, get_or, Bool, false, arith, ap, sym, ◌∙◌, refl, subst, ⊎_elim, length-append}
 use Rattle.std.specs.Prelude.{ℤ, pos, negsuc, ◌≢◌, ◌*ℤ◌}
 use Rattle.std.proofs.lemmas.Int.{ints}
 use Rattle.algebra.specs.Numbered.{IsNumber}

@@ -1,4 +1,4 @@
-use Rattle.std.proofs.Common.{◌≡◌, ℕ, ◌+◌, List, [], ◌∷◌, length, length-append, arith, ap, ◌∙◌, subst}
+use Rattle.std.proofs.Common.{◌≡◌, ℕ, ◌+◌, [], ◌∷◌, length, length-append, arith, ap, ◌∙◌, subst}
 use Rattle.simplex.specs.inside.Filled.{AreLines}
 use Rattle.simplex.proofs.Fills.{lines_none, lines_more, lines_spare}
 use Rattle.simplex.proofs.filling.fill_lines.Goals as goal
