@@ -9,7 +9,6 @@ use Rattle.programs.specs.Programs.{Program, ProgramRow, empty_row, row_at, row_
 use Rattle.programs.specs.Limits.{Rises, IsWithinLimits}
 use Rattle.programs.proofs.RisesLemmas.{rises_length}
 use Rattle.safe_bounds.proofs.DrawnLemmas.{nothing_drawn, wider, zero_product}
-use Rattle.safe_bounds.proofs.StepWidths.{none_of_bits}
 use Rattle.safe_bounds.proofs.rows.draw_row.Goals as goal
 
 -- a row has at most 1,000 terms
@@ -25,16 +24,20 @@ returns-clause-width c = λ k h.
     let short = short_row c.args.milp.now c.args.i c.terms.result.now c.row-row.result c.row-row.ensures.limits c.requires.number c.terms.ensures c.row-row.ensures.row in
     wider (k + length c.terms.result.now * 2 ^ 103) (k + 2 ^ 113) c.draw_terms.new.drawn (omega arith) (c.draw_terms.ensures.width k h)
 
-pub returns-then-mult-eq0-clause-value : goal.returns-then-mult-eq0-clause-value
-returns-then-mult-eq0-clause-value c =
-    zero_product c.args.mult (row_at c.args.milp.now c.args.i).right (none_of_bits c.args.mult c.ranges.mult c.if-mult-eq0.true)
+pub returns-then-is_zero-clause-value : goal.returns-then-is_zero-clause-value
+returns-then-is_zero-clause-value c =
+    let fits : FitsSigned w128 c.args.mult = c.ranges.mult in
+    let zero = simp to_z-of_z at c.is_zero.ensures in
+    zero_product c.args.mult (row_at c.args.milp.now c.args.i).right (zero.0 c.if-is_zero.true)
 
-pub returns-then-mult-eq0-clause-drawn : goal.returns-then-mult-eq0-clause-drawn
-returns-then-mult-eq0-clause-drawn c =
-    nothing_drawn c.args.drawn.now c.args.mult (row_at c.args.milp.now c.args.i).terms (none_of_bits c.args.mult c.ranges.mult c.if-mult-eq0.true)
+pub returns-then-is_zero-clause-drawn : goal.returns-then-is_zero-clause-drawn
+returns-then-is_zero-clause-drawn c =
+    let fits : FitsSigned w128 c.args.mult = c.ranges.mult in
+    let zero = simp to_z-of_z at c.is_zero.ensures in
+    nothing_drawn c.args.drawn.now c.args.mult (row_at c.args.milp.now c.args.i).terms (zero.0 c.if-is_zero.true)
 
-pub returns-then-mult-eq0-clause-width : goal.returns-then-mult-eq0-clause-width
-returns-then-mult-eq0-clause-width c = λ k h. wider k (k + 2 ^ 113) c.args.drawn.now (omega arith) h
+pub returns-then-is_zero-clause-width : goal.returns-then-is_zero-clause-width
+returns-then-is_zero-clause-width c = λ k h. wider k (k + 2 ^ 113) c.args.drawn.now (omega arith) h
 
 pub returns-clause-value : goal.returns-clause-value
 returns-clause-value c =
