@@ -1,5 +1,5 @@
 -- Numbers of a program put into memory one by one.
-use Rattle.std.proofs.Common.{◌≡◌, ℕ, zero, suc, ◌+◌, ◌≤◌, ◌<◌, ◌⊎◌, List, [], ◌∷◌, ◌++◌, length, get_or, Bool, false, arith, ap, sym, ◌∙◌, refl, subst, ⊎_elim, length-append}
+use Rattle.std.proofs.Common.{◌≡◌, ℕ, zero, suc, ◌+◌, ◌≤◌, ◌<◌, ◌⊎◌, List, [], ◌∷◌, ◌++◌, length, get_or, Bool, false, arith, ap, sym, ◌∙◌, refl, subst, inl, inr, ⊎_elim, length-append}
 use Rattle.std.specs.Prelude.{ℤ, pos, negsuc, ◌≢◌, ◌*ℤ◌}
 use Rattle.std.proofs.lemmas.Int.{ints}
 use Rattle.algebra.specs.Numbered.{IsNumber}
@@ -12,6 +12,8 @@ use Rattle.sparse_rows.specs.Lines.{entry_of, IsLine, IsFilled}
 use Rattle.sparse_rows.specs.Sums.{meaning_at}
 use Rattle.sparse_rows.proofs.LinesLemmas.{line_push, entry_push_same, entry_push_other, entry_below, line_length, value_entry, value_column, line_wider}
 use Rattle.sparse_rows.proofs.Common.{AreQuotients, quotients_line, quotients_entries}
+use Rattle.tableau.specs.Programs.{Given}
+use Rattle.tableau.specs.Operations.{IsGivenNumber, IsWideNumber}
 use Rattle.simplex.specs.Givens.{low_at, high_at, has_high_at}
 use Rattle.simplex.specs.Starts.{cost_entry, start_entry}
 use Rattle.simplex.specs.inside.Filled.{AreBounds, AreLines}
@@ -217,3 +219,12 @@ item_is xs ys k d e l = any xs k d (get_or xs k d) l ∙ ap (λ zs. get_or zs k 
     any [] n a b l = absurd (omega arith)
     any (z ∷ zs) zero a b l = refl
     any (z ∷ zs) (suc n) a b l = any zs n a b (omega arith)
+
+-- the row of a number that is out of range is one of the program, or 0
+given_row : (g : Given) (i j : ℕ) (z : ℤ) → IsGivenNumber g i j z → i ≤ g.rows
+given_row g i j z (inl h) = h.1
+given_row g i j z (inr (inl h)) = let none = h.0 in omega arith
+given_row g i j z (inr (inr h)) = let last = h.1 in let row = h.2 in omega arith
+
+pub wide_row : (greatest : ℕ) (g : Given) (i j : ℕ) → IsWideNumber greatest g i j → i ≤ g.rows
+wide_row greatest g i j h = given_row g i j h.0 h.1

@@ -20,6 +20,3 @@ loop-tableau-preserved g c =
         (omega arith, c.push_reserved.ensures.capacity ∙ c.loop-tableau.invariant.1.1.1),
       ),
     )
-
-pub exchange-requires : goal.exchange-requires
-exchange-requires g c = rw c.in-Good.is at c.choose-choice.ensures

@@ -9,33 +9,6 @@ use Rattle.simplex.specs.States.{State, tableau_of, KeepsLaws}
 use Rattle.simplex.proofs.Selections.{good_by_order, good_by_cost}
 use Rattle.simplex.proofs.table.Tableau.choose.Goals as goal
 
-pub returns-in-Err : goal.returns-in-Err
-returns-in-Err g c = c.in-Err.ensures.wide
-
-pub returns-in-Ok-None : goal.returns-in-Ok-None
-returns-in-Ok-None g c = rw c.in-Ok-None.field-0-is at c.in-Ok-None.ensures.none
-
-pub returns-in-Ok-None-enter : goal.returns-in-Ok-None-enter
-returns-in-Ok-None-enter g c = rw c.in-Ok-None-enter.field-0-is at c.in-Ok-None-enter.ensures.none
-
-pub returns-in-Err-enter : goal.returns-in-Err-enter
-returns-in-Err-enter g c = c.in-Err-enter.ensures.wide
-
-pub returns-in-Err-enter-2 : goal.returns-in-Err-enter-2
-returns-in-Err-enter-2 g c = c.in-Err-enter-2.ensures.wide
-
-pub enter-requires-clause-row : goal.enter-requires-clause-row
-enter-requires-clause-row g c = (c.in-Ok.ensures.surveyed.some c.if-first-eq0.false).0
-
-pub enter-requires-clause-outside : goal.enter-requires-clause-outside
-enter-requires-clause-outside g c = (c.in-Ok.ensures.surveyed.some c.if-first-eq0.false).1
-
-pub enter-requires-2-clause-row : goal.enter-requires-2-clause-row
-enter-requires-2-clause-row g c = (c.in-Ok.ensures.surveyed.another c.if-first-eq0.false).0
-
-pub enter-requires-2-clause-outside : goal.enter-requires-2-clause-outside
-enter-requires-2-clause-outside g c = (c.in-Ok.ensures.surveyed.another c.if-first-eq0.false).1
-
 pub returns-then-is_zero : goal.returns-then-is_zero
 returns-then-is_zero g c =
     let reached = subst (λ (s : State g.row.W.Denot). KeepsLaws g.W.Whole.meaning s) c.self.view_is c.self.invariant.reached in
