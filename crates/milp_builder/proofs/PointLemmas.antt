@@ -1,7 +1,7 @@
 -- Steps of loops that append the values of kinds of column.
-use Rattle.std.proofs.Common.{refl, ◌≡◌, ℕ, zero, suc, ◌+◌, ◌-◌, ◌≤◌, List, [], ◌∷◌, ◌++◌, map, length, append_assoc, arith, ap, sym, ◌∙◌}
+use Rattle.std.proofs.Common.{refl, ◌≡◌, ℕ, zero, suc, ◌+◌, ◌-◌, ◌≤◌, ◌<◌, List, [], ◌∷◌, ◌++◌, map, take, get_or, length, append_assoc, arith, ap, sym, ◌∙◌}
 use Rattle.std.specs.Prelude.{ℤ, pos}
-use Rattle.std.proofs.lemmas.List.{map-append, same_lists}
+use Rattle.std.proofs.lemmas.List.{map-append, same_lists, take_more}
 use Rattle.algebra.specs.Lists.{list_to, flat_to}
 use Rattle.algebra.proofs.ListsLemmas.{map-list_to, length-list_to}
 use Rattle.road_types.specs.Numbered.{numbered, IsNumber}
@@ -127,6 +127,12 @@ flat_step f n init now next e h = append_step init (flat_to f n) (f (n + 1)) now
 
 pub list_step_from_one : {A : Type 0} (f : ℕ → A) (n : ℕ) (init now next : List A) → 1 ≤ n → now ≡ init ++ list_to f (n - 1) → next ≡ now ++ (f n ∷ []) → next ≡ init ++ list_to f (n + 1 - 1)
 list_step_from_one f n init now next low e h = append_step init (list_to f (n - 1)) (f n ∷ []) now next e h ∙ ap (λ x. init ++ x) (sym (list_from_one f n low))
+
+-- a loop's step over a list: what the items so far gave, and one more
+pub map_step : {A B : Type 0} (f : A → B) (xs : List A) (k : ℕ) (d : A) (y : B) (now next : List B) → k < length xs → now ≡ map f (take k xs) → next ≡ now ++ (y ∷ []) → y ≡ f (get_or xs k d) → next ≡ map f (take (k + 1) xs)
+map_step f xs k d y now next l so_far e here =
+    e ∙ ap (λ zs. zs ++ (y ∷ [])) so_far ∙ ap (λ z. map f (take k xs) ++ (z ∷ [])) here
+    ∙ sym (ap (map f) (take_more xs k d l) ∙ map-append f (take k xs) (get_or xs k d ∷ []))
 
 -- the columns in four parts
 pub columns_are : (road : Road) → columns_of road

@@ -59,6 +59,10 @@ grown_count road forms old new g e =
     ap length (g.rows ∙ ap (λ xs. xs ++ forms_terms road forms) e) ∙ length-map forms (form_terms road)
 
 -- terms, sides and right sides of forms make the rows of the forms
+-- one of each form, and one row of each form
+pub same_count : {A : Type 0} (road : Road) (forms : List Form) (f : Form → A) (xs : List A) (rows : List (List (Term ℤ))) → xs ≡ map f forms → rows ≡ forms_terms road forms → length xs ≡ length rows
+same_count road forms f xs rows e h = ap length e ∙ length-map forms f ∙ sym (ap length h ∙ length-map forms (form_terms road))
+
 pub rows_of_forms : (road : Road) (forms : List Form) → rows_of (forms_terms road forms) (map (λ form. form.side) forms) (map (λ form. form.right) forms) ≡ map (row_of road) forms
 rows_of_forms road [] = refl
 rows_of_forms road (form ∷ forms) = ap (λ rows. row_of road form ∷ rows) (rows_of_forms road forms)

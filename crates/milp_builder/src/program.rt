@@ -3,6 +3,7 @@ ghost use Rattle.std.specs.Prelude.{◌≡◌, IfOk, map, None, length, ◌≤�
 ghost use Rattle.algebra.specs.Numbered.{numbered, IsNumber};
 ghost use Rattle.form_rows.specs.FormRows.{asked, forms_terms};
 ghost use Rattle.road_types.specs.Accepted.{IsAccepted};
+ghost use Rattle.road_types.specs.Columns.{columns_of};
 ghost use Rattle.road_types.specs.Faults.{road_fault};
 ghost use Rattle.road_types.specs.Forms.{no_form};
 ghost use Rattle.road_types.specs.Ranges.{AreHeightRanges};
@@ -15,7 +16,7 @@ use crate::boxes::BoxRange;
 use crate::kinds::columns_of;
 use haul_rows::{haul_rows, haul_side};
 use programs::Milp;
-use road_types::{Listed, Road};
+use road_types::{Column, Listed, Road};
 use section_rows::{Ranges, section_rows, section_side};
 use std::alloc::{AllocError, Global};
 use term_store::{Rows, Side};
@@ -36,12 +37,42 @@ fn build_accepted(alloc: Global, road: &Road, range: &BoxRange) -> Result<Milp, 
     ensures { IfOk result (λ milp. milp ≡ box_program road.now range.now) }
 {
     let ranges = ranges_of(alloc, range)?;
-    let (rows, along) = box_rows(alloc, road, &ranges)?;
-    let sides = sides_of(alloc, road, &ranges, along)?;
-    let rights = rights_of(alloc, road, &ranges, along)?;
     let kinds = columns_of(alloc, road)?;
-    let bounds = column_bounds(alloc, road, range, kinds.as_slice())?;
-    let costs = column_costs(alloc, road, kinds.as_slice())?;
+    build_over(alloc, road, range, &ranges, kinds.as_slice())
+}
+
+/// The program of a box of these ranges, over the kinds of column that the road has.
+fn build_over(
+    alloc: Global,
+    road: &Road,
+    range: &BoxRange,
+    ranges: &Ranges,
+    kinds: &[Column],
+) -> Result<Milp, AllocError>
+    requires faultless { road_fault road.now ≡ None }
+    requires accepted { IsAccepted road.now }
+    requires fits { IsBoxOf road.now range.now }
+    requires ranges { ranges.now.heights ≡ range.now.heights }
+    requires kinds { kinds.now ≡ columns_of road.now }
+    ensures { IfOk result (λ milp. milp ≡ box_program road.now range.now) }
+{
+    let bounds = column_bounds(alloc, road, range, kinds)?;
+    let costs = column_costs(alloc, road, kinds)?;
+    let (rows, along) = box_rows(alloc, road, ranges)?;
+    let sides = match sides_of(alloc, road, ranges, along) {
+        Ok(sides) => sides,
+        Err(error) => {
+            drop(rows);
+            return Err(error);
+        }
+    };
+    let rights = match rights_of(alloc, road, ranges, along) {
+        Ok(rights) => rights,
+        Err(error) => {
+            drop(rows);
+            return Err(error);
+        }
+    };
     Ok(Milp::new(rows, sides, rights, bounds, costs))
 }
 

@@ -24,6 +24,16 @@ coefficient-append j (t ∷ ts) us = let rest = coefficient-append j ts us in om
 pub none_drawn : (xs : List ℤ) (y : ℤ) → HaveDrawn xs y [] xs
 none_drawn xs y = record { columns = refl; each = λ j n. omega (arith, ints) }
 
+-- a multiplier of 0 draws nothing
+pub zero_product : (y x : ℤ) → y ≡ pos 0 → pos 0 ≡ y *ℤ x
+zero_product y x e = rw e (omega (arith, ints))
+
+pub nothing_drawn : (xs : List ℤ) (y : ℤ) (ts : List (Term ℤ)) → y ≡ pos 0 → HaveDrawn xs y ts xs
+nothing_drawn xs y ts e = record {
+  columns = refl;
+  each = λ j n. let none = zero_product y (coefficient j ts) e in omega (arith, ints);
+}
+
 -- what is drawn by some terms, and then by others
 pub more_drawn : (xs ys zs : List ℤ) (y : ℤ) (ts us : List (Term ℤ)) → HaveDrawn xs y ts ys → HaveDrawn ys y us zs → HaveDrawn xs y (ts ++ us) zs
 more_drawn xs ys zs y ts us p q = record {

@@ -1,8 +1,8 @@
 -- Each step of a value fits its width.
-use Rattle.std.proofs.Common.{◌≡◌, ℕ, ◌+◌, ◌*◌, ◌^◌, ◌≤◌, arith}
-use Rattle.std.specs.Prelude.{ℤ, ◌+ℤ◌, ◌-ℤ◌, ◌*ℤ◌, FitsSigned, unsigned_abs}
+use Rattle.std.proofs.Common.{◌≡◌, ℕ, ◌+◌, ◌*◌, ◌^◌, ◌≤◌, arith, ap, sym, ◌∙◌, to_z, of_z}
+use Rattle.std.specs.Prelude.{ℤ, pos, ◌+ℤ◌, ◌-ℤ◌, ◌*ℤ◌, FitsSigned, unsigned_abs}
 use Rattle.std.specs.Int.{w64, w128}
-use Rattle.std.proofs.lemmas.Int.{ints}
+use Rattle.std.proofs.lemmas.Int.{ints, to_z-of_z}
 use Rattle.algebra.proofs.Magnitudes.{unsigned_abs_mul_le, unsigned_abs_add, fits_w128_add, fits_w128_sub, fits_w128_mul}
 use Rattle.programs.specs.Weights.{reach}
 
@@ -12,6 +12,9 @@ word_width x f = omega (arith, ints)
 -- a multiplier or a scale times a number of 64 bits
 pub product_of_word : (y x : ℤ) → unsigned_abs y ≤ 2 ^ 40 → FitsSigned w64 x → unsigned_abs (y *ℤ x) ≤ 2 ^ 103
 product_of_word y x p f = unsigned_abs_mul_le y x (2 ^ 40) (2 ^ 63) p (word_width x f)
+
+pub word_product_fits : (y x : ℤ) → unsigned_abs y ≤ 2 ^ 40 → FitsSigned w64 x → FitsSigned w128 (y *ℤ x)
+word_product_fits y x p f = fits_w128_mul y x (2 ^ 40) (2 ^ 63) p (word_width x f) (omega arith)
 
 pub drawn_fits : (old y x : ℤ) → unsigned_abs old ≤ 2 ^ 124 → unsigned_abs y ≤ 2 ^ 40 → FitsSigned w64 x → FitsSigned w128 (old +ℤ y *ℤ x)
 drawn_fits old y x p q f = fits_w128_add old (y *ℤ x) (2 ^ 124) (2 ^ 103) p (product_of_word y x q f) (omega arith)
@@ -40,3 +43,7 @@ rights_fit value more k p q few = fits_w128_add value more (k * 2 ^ 103) (2 ^ 10
 
 pub rights_width_more : (value more sum : ℤ) (k : ℕ) → unsigned_abs value ≤ k * 2 ^ 103 → unsigned_abs more ≤ 2 ^ 103 → sum ≡ value +ℤ more → unsigned_abs sum ≤ (k + 1) * 2 ^ 103
 rights_width_more value more sum k p q e = rw e (omega (arith, unsigned_abs_add value more))
+
+-- a number without bits is 0
+pub none_of_bits : (x : ℤ) → FitsSigned w128 x → of_z w128 x ≡ 0 → x ≡ pos 0
+none_of_bits x f e = sym (to_z-of_z w128 x f) ∙ ap (to_z w128) e

@@ -10,6 +10,7 @@ ghost use Rattle.safe_bounds.specs.Values.{AreMultipliers, HasRightSigns, IsMult
 ghost use Rattle.safe_bounds.specs.Bounds.{BoundsCosts, HasNoPoint};
 ghost use Rattle.safe_bounds.specs.inside.Drawn.{AreAtMost};
 
+use crate::products::times_word;
 use crate::rows::draw_rows;
 use crate::scratch::Scratch;
 use algebra::{minus, plus, times};
@@ -58,7 +59,7 @@ fn reduced_cost(milp: &Milp, j: usize, scale: i128, drawn: i128) -> i128
     requires drawn { unsigned_abs drawn ≤ 2 ^ 123 }
     ensures { result ≡ scale *ℤ cost_at milp.now j -ℤ drawn }
 {
-    minus(times(scale, i128::from(milp.cost(j))), drawn)
+    minus(times_word(scale, milp.cost(j)), drawn)
 }
 
 /// The least that column `j`, numbered from 1, can add by its reduced cost.

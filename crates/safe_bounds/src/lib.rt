@@ -4,6 +4,7 @@
 
 mod leaf;
 mod narrowing;
+mod products;
 mod rows;
 mod scratch;
 

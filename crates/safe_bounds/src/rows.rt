@@ -1,12 +1,13 @@
 // The rows' part of a value: their right sides, and what their multipliers draw at each column.
-ghost use Rattle.std.specs.Prelude.{◌≡◌, ℕ, ◌+◌, ◌*◌, ◌^◌, ◌≤◌, [], ◌∷◌, length, pos, ◌*ℤ◌, unsigned_abs};
+ghost use Rattle.std.specs.Prelude.{◌≡◌, ◌↔◌, IsTrue, ℕ, ◌+◌, ◌*◌, ◌^◌, ◌≤◌, [], ◌∷◌, length, pos, ◌*ℤ◌, unsigned_abs};
 ghost use Rattle.algebra.specs.Numbered.{numbered, IsNumber};
 ghost use Rattle.programs.specs.Programs.{column_count, row_at, row_count};
 ghost use Rattle.programs.specs.Limits.{IsWithinLimits, Rises};
 ghost use Rattle.safe_bounds.specs.Values.{AreMultipliers, IsMultiplier, combined, rights_value};
 ghost use Rattle.safe_bounds.specs.inside.Drawn.{AreAtMost, HaveDrawn};
 
-use algebra::{plus, times};
+use crate::products::times_word;
+use algebra::plus;
 use programs::Milp;
 use term_store::Term;
 
@@ -40,12 +41,19 @@ fn draw_row(milp: &Milp, i: usize, mult: i128, drawn: &mut [i128]) -> i128
     ensures drawn { HaveDrawn drawn.old mult (row_at milp.now i).terms drawn.new }
     ensures width { (k : ℕ) → AreAtMost k drawn.old → AreAtMost (k + 2 ^ 113) drawn.new }
 {
-    if mult == 0 {
+    if is_zero(mult) {
         return 0;
     }
     let row = milp.row(i);
     draw_terms(row.terms(), mult, drawn);
-    times(mult, i128::from(row.right()))
+    times_word(mult, row.right())
+}
+
+/// Whether a multiplier is 0.
+fn is_zero(mult: i128) -> bool
+    ensures { IsTrue result ↔ (mult ≡ pos 0) }
+{
+    mult == 0
 }
 
 /// Draws a row's terms by a multiplier.
@@ -71,5 +79,5 @@ fn draw_term(term: Term<i64>, mult: i128, drawn: &mut [i128])
     ensures width { (k : ℕ) → AreAtMost k drawn.old → AreAtMost (k + 2 ^ 103) drawn.new }
 {
     let place = term.column as usize - 1;
-    drawn[place] = plus(drawn[place], times(mult, i128::from(term.value)));
+    drawn[place] = plus(drawn[place], times_word(mult, term.value));
 }

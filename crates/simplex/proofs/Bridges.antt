@@ -1,6 +1,6 @@
 -- Values and points of a program, and those of what a tableau is started with.
-use Rattle.std.proofs.Common.{◌≡◌, ℕ, zero, suc, ◌+◌, ◌-◌, ◌≤◌, ◌<◌, List, [], ◌∷◌, ◌++◌, ◌⊎◌, length, get_or, true, false, arith, ap, sym, ◌∙◌, refl, subst, ⊎_elim}
-use Rattle.std.specs.Prelude.{ℤ, pos, ◌+ℤ◌, ◌-ℤ◌, ◌*ℤ◌, ◌≤ℤ◌}
+use Rattle.std.proofs.Common.{Bool, length-append, ◌≡◌, ℕ, zero, suc, ◌+◌, ◌-◌, ◌≤◌, ◌<◌, List, [], ◌∷◌, ◌++◌, ◌⊎◌, length, get_or, true, false, arith, ap, sym, ◌∙◌, refl, subst, ⊎_elim}
+use Rattle.std.specs.Prelude.{ℤ, pos, neg_ℤ, if◌then◌else◌, ◌+ℤ◌, ◌-ℤ◌, ◌*ℤ◌, ◌≤ℤ◌}
 use Rattle.std.specs.Int.{int_min}
 use Rattle.std.proofs.lemmas.Int.{ints}
 use Rattle.std.proofs.lemmas.List.{get_or_append_left, get_or-append_right}
@@ -19,6 +19,7 @@ use Rattle.programs.proofs.PointsLemmas.{value_by_columns}
 use Rattle.safe_bounds.specs.Values.{rights_value, combined, reduced_cost, column_value, value_of, HasRightSigns}
 use Rattle.tableau.specs.Programs.{row_value, cost_value, HasSlacks, LiesInBounds}
 use Rattle.tableau.specs.Ends.{dual_value, reduced_cost as left_cost}
+use Rattle.simplex.specs.inside.Slacks.{AreSlacks}
 use Rattle.simplex.specs.Givens.{given_of, low_at, high_at, has_high_at, is_equation}
 
 -- ---- lists
@@ -56,6 +57,19 @@ numbered_more xs ys z f k count e each last (suc i) first within = ⊎_elim
   where
     lt_or_le : (a b : ℕ) → (a < b) ⊎ (b ≤ a)
     lt_or_le a b = grind arith
+
+-- ---- entries at slacks
+
+pub slacks_more : (columns k : ℕ) (turns : Bool) (entries : ℕ → ℤ) (xs ys : List ℤ) (z : ℤ) → AreSlacks columns k turns entries xs → ys ≡ xs ++ (z ∷ [])
+    → z ≡ (if turns then (neg_ℤ (entries (columns + k + 1))) else (entries (columns + k + 1))) → AreSlacks columns (k + 1) turns entries ys
+slacks_more columns k turns entries xs ys z h e is =
+    let F : ℕ → ℤ = λ i. if turns then (neg_ℤ (entries (columns + i))) else (entries (columns + i)) in
+    let place : columns + k + 1 ≡ columns + (k + 1) = omega arith in
+    let last : F (k + 1) ≡ z = sym (is ∙ ap (λ j. if turns then (neg_ℤ (entries j)) else (entries j)) place) in
+    record {
+      count = ap length e ∙ (length-append xs (z ∷ []) ∙ ap (λ n. n + 1) h.count);
+      each = numbered_more xs ys z F k h.count e h.each last;
+    }
 
 -- ---- sums over rows
 

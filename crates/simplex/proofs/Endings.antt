@@ -1,5 +1,5 @@
 -- What a tableau's numbers show of the program: the optimal point, the ray of an empty row, and its scale and multipliers.
-use Rattle.std.proofs.Common.{◌≡◌, ℕ, ◌+◌, ◌≤◌, ◌<◌, List, [], length, get_or, false, Bool, true, arith, ap, sym, ◌∙◌, refl, subst, inl, inr}
+use Rattle.std.proofs.Common.{◌≡◌, ℕ, ◌+◌, ◌≤◌, List, [], length, get_or, false, Bool, true, arith, ap, sym, ◌∙◌, refl, subst, inl, inr}
 use Rattle.std.specs.Prelude.{ℤ, pos, negsuc, neg_ℤ, ◌*ℤ◌, ◌≤ℤ◌, ◌<ℤ◌, ◌==◌, int_lt, nat_le, if◌then◌else◌, unsigned_abs}
 use Rattle.std.proofs.lemmas.Int.{ints}
 use Rattle.algebra.specs.Lists.{list_to}

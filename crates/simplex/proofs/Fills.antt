@@ -1,5 +1,5 @@
 -- Numbers of a program put into memory one by one.
-use Rattle.std.proofs.Common.{◌≡◌, ℕ, zero, suc, ◌+◌, ◌-◌, ◌≤◌, ◌<◌, ◌⊎◌, List, [], ◌∷◌, ◌++◌, length, get_or, Bool, false, arith, ap, sym, ◌∙◌, refl, subst, ⊎_elim, length-append}
+use Rattle.std.proofs.Common.{◌≡◌, ℕ, zero, suc, ◌+◌, ◌≤◌, ◌<◌, ◌⊎◌, List, [], ◌∷◌, ◌++◌, length, get_or, Bool, false, arith, ap, sym, ◌∙◌, refl, subst, inl, inr, ⊎_elim, length-append}
 use Rattle.std.specs.Prelude.{ℤ, pos, negsuc, ◌≢◌, ◌*ℤ◌}
 use Rattle.std.proofs.lemmas.Int.{ints}
 use Rattle.algebra.specs.Numbered.{IsNumber}
@@ -12,6 +12,8 @@ use Rattle.sparse_rows.specs.Lines.{entry_of, IsLine, IsFilled}
 use Rattle.sparse_rows.specs.Sums.{meaning_at}
 use Rattle.sparse_rows.proofs.LinesLemmas.{line_push, entry_push_same, entry_push_other, entry_below, line_length, value_entry, value_column, line_wider}
 use Rattle.sparse_rows.proofs.Common.{AreQuotients, quotients_line, quotients_entries}
+use Rattle.tableau.specs.Programs.{Given}
+use Rattle.tableau.specs.Operations.{IsGivenNumber, IsWideNumber}
 use Rattle.simplex.specs.Givens.{low_at, high_at, has_high_at}
 use Rattle.simplex.specs.Starts.{cost_entry, start_entry}
 use Rattle.simplex.specs.inside.Filled.{AreBounds, AreLines}
@@ -30,6 +32,14 @@ get_push_other [] x d j l = absurd (omega arith)
 get_push_other (y ∷ ys) x d zero l = refl
 get_push_other (y ∷ ys) x d (suc j) l = get_push_other ys x d j (omega arith)
 
+-- a basis with one slack more
+pub basis_more : (xs ys : List ℕ) (columns k z : ℕ) → length xs ≡ k + 1 → ys ≡ xs ++ z ∷ [] → z ≡ columns + k + 1 → ((i : ℕ) → 1 ≤ i → i ≤ k → get_or xs i 0 ≡ columns + i)
+    → (i : ℕ) → 1 ≤ i → i ≤ k + 1 → get_or ys i 0 ≡ columns + i
+basis_more xs ys columns k z size e is each i first last = ⊎_elim
+    (λ (s : length xs ≡ i). ap (λ zs. get_or zs i 0) e ∙ ap (λ j. get_or (xs ++ z ∷ []) j 0) (sym s) ∙ get_push_same xs z 0 ∙ omega arith)
+    (λ (s : length xs ≢ i). ap (λ zs. get_or zs i 0) e ∙ get_push_other xs z 0 i (omega arith) ∙ each i first (omega arith))
+    (same_or_not (length xs) i)
+
 meaning_push_same : {A : Type 0} (f : A → ℤ) (xs : List A) (x : A) → meaning_at f (xs ++ x ∷ []) (length xs) ≡ f x
 meaning_push_same f [] x = refl
 meaning_push_same f (y ∷ ys) x = meaning_push_same f ys x
@@ -43,6 +53,16 @@ push_length : {X : Type 0} (xs : List X) (x : X) → length (xs ++ x ∷ []) ≡
 push_length xs x = length-append xs (x ∷ []) ∙ omega arith
 
 -- ---- bounds
+
+pub bounds_none : {A : Type 0} (f : A → ℤ) (program : Program) (low high : List A) (has_high : List Bool) → length low ≡ 1 → length high ≡ 1 → length has_high ≡ 1 → AreBounds f program 1 low high has_high
+bounds_none f program low high has_high l h b = record {
+  low_count = l;
+  high_count = h;
+  has_high_count = b;
+  lows = λ j first last. absurd (omega arith);
+  highs = λ j first last. absurd (omega arith);
+  bounded = λ j first last. absurd (omega arith);
+}
 
 pub bounds_more : {A : Type 0} (f : A → ℤ) (program : Program) (end : ℕ) (low high : List A) (has_high : List Bool) (least greatest : A) (bounded : Bool) → AreBounds f program end low high has_high → 1 ≤ end
     → f least ≡ low_at program end → f greatest ≡ high_at program end → bounded ≡ has_high_at program end
@@ -199,3 +219,12 @@ item_is xs ys k d e l = any xs k d (get_or xs k d) l ∙ ap (λ zs. get_or zs k 
     any [] n a b l = absurd (omega arith)
     any (z ∷ zs) zero a b l = refl
     any (z ∷ zs) (suc n) a b l = any zs n a b (omega arith)
+
+-- the row of a number that is out of range is one of the program, or 0
+given_row : (g : Given) (i j : ℕ) (z : ℤ) → IsGivenNumber g i j z → i ≤ g.rows
+given_row g i j z (inl h) = h.1
+given_row g i j z (inr (inl h)) = let none = h.0 in omega arith
+given_row g i j z (inr (inr h)) = let last = h.1 in let row = h.2 in omega arith
+
+pub wide_row : (greatest : ℕ) (g : Given) (i j : ℕ) → IsWideNumber greatest g i j → i ≤ g.rows
+wide_row greatest g i j h = given_row g i j h.0 h.1

@@ -1,5 +1,5 @@
 -- A tableau in memory through an exchange.
-use Rattle.std.proofs.Common.{◌≡◌, ℕ, zero, suc, ◌+◌, ◌-◌, ◌≤◌, ◌<◌, ◌⊎◌, inl, inr, List, [], ◌∷◌, length, get_or, set, take, Bool, arith, ap, sym, ◌∙◌, refl, subst, ⊎_elim}
+use Rattle.std.proofs.Common.{◌≡◌, ℕ, zero, suc, ◌+◌, ◌≤◌, ◌<◌, ◌⊎◌, inl, inr, List, [], ◌∷◌, length, get_or, set, take, Bool, arith, ap, sym, ◌∙◌, refl, subst, ⊎_elim}
 use Rattle.std.specs.Prelude.{ℤ, pos, ◌≢◌, ◌↔◌, ◌-ℤ◌, ◌*ℤ◌, unsigned_abs}
 use Rattle.std.proofs.lemmas.Int.{ints}
 use Rattle.std.proofs.lemmas.List.{get_or-take, length-take}

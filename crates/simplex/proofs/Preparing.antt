@@ -2,7 +2,7 @@
 use Rattle.std.proofs.Common.{◌≡◌, ℕ, ◌+◌, ◌<◌, ◌⊎◌, List, [], length, get_or, set, Bool, false, arith, sym, ◌∙◌, refl, subst, ⊎_elim, get_or-set_same, get_or-set_other}
 use Rattle.std.specs.Prelude.{ℤ, ◌≢◌}
 use Rattle.term_store.specs.declared.term.Term.{Term}
-use Rattle.simplex.specs.inside.Rows.{AreSameBut, IsPrepared}
+use Rattle.simplex.specs.inside.Rows.{AreSameBut, IsPrepared, IsWideRow, LeavesEntries}
 use Rattle.simplex.proofs.Reducing.{other_row_same, rows_length, prepared_same}
 
 pub same_or_not : (i k : ℕ) → (i ≡ k) ⊎ (i ≢ k)
@@ -32,3 +32,15 @@ module _ {A : Type 0} (f : A → ℤ) (i c end count done : ℕ) (before now aft
         (sym (get_or-set_other marks done k marked false differ)) (h.prepared k below))
         (same_or_not k done);
   }
+
+-- what holds of two rows holds of rows that are the same
+module _ {A : Type 0} (f : A → ℤ) (i c k end end' : ℕ) (pivot pivot' other other' : List (Term A)) (e : end' ≡ end) (p : pivot' ≡ pivot) (o : other' ≡ other) where
+  pub leaves_same : LeavesEntries f i c end k pivot other → LeavesEntries f i c end' k pivot' other'
+  leaves_same h =
+      subst (λ (n : ℕ). LeavesEntries f i c n k pivot' other') (sym e)
+      (subst (λ (ts : List (Term A)). LeavesEntries f i c end k ts other') (sym p) (subst (λ (ts : List (Term A)). LeavesEntries f i c end k pivot ts) (sym o) h))
+
+  pub wide_row_same : (greatest column : ℕ) → IsWideRow f greatest i c end' k pivot' other' column → IsWideRow f greatest i c end k pivot other column
+  wide_row_same greatest column h =
+      subst (λ (n : ℕ). IsWideRow f greatest i c n k pivot other column) e
+      (subst (λ (ts : List (Term A)). IsWideRow f greatest i c end' k ts other column) p (subst (λ (ts : List (Term A)). IsWideRow f greatest i c end' k pivot' ts column) o h))

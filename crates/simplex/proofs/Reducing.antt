@@ -1,5 +1,5 @@
 -- A row reduced by factors without a common divisor, and then divided, is the reduced row divided.
-use Rattle.std.proofs.Common.{◌≡◌, ℕ, ◌+◌, ◌*◌, ◌≤◌, ◌<◌, ◌⊎◌, inl, inr, List, [], length, get_or, arith, ap, sym, ◌∙◌, subst, ⊎_elim, Bool, true, false, set, get_or-set_other}
+use Rattle.std.proofs.Common.{◌≡◌, ℕ, ◌+◌, ◌≤◌, ◌<◌, ◌⊎◌, inl, inr, List, [], length, get_or, arith, ap, sym, ◌∙◌, subst, ⊎_elim, Bool, true, false, get_or-set_other}
 use Rattle.std.specs.Prelude.{ℤ, pos, ◌≢◌, ◌-ℤ◌, ◌*ℤ◌, ◌<ℤ◌, unsigned_abs}
 use Rattle.std.proofs.lemmas.Int.{ints, unsigned_abs-mul}
 use Rattle.std.proofs.Math.Nat.{mul-le-mul_right}

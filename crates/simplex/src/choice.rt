@@ -2,7 +2,7 @@
 use tableau::{Bound, Exchange, Op};
 
 /// What is to be done with a tableau.
-#[derive(Clone, Copy, Debug, PartialEq, Eq)]
+#[derive(Clone, Copy)]
 pub(crate) enum Choice {
     /// It is optimal.
     Optimal,

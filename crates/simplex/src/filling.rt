@@ -40,9 +40,9 @@ pub(crate) fn fill_bounds<W: Whole>(
     high: &mut Vec<W>,
     has_high: &mut Vec<bool>,
 ) -> Result<(), usize>
-    requires low { vec_capacity low.old ≡ column_count milp.now + row_count milp.now + 1 }
-    requires high { vec_capacity high.old ≡ column_count milp.now + row_count milp.now + 1 }
-    requires has_high { vec_capacity has_high.old ≡ column_count milp.now + row_count milp.now + 1 }
+    requires low { column_count milp.now + row_count milp.now + 1 ≤ vec_capacity low.old }
+    requires high { column_count milp.now + row_count milp.now + 1 ≤ vec_capacity high.old }
+    requires has_high { column_count milp.now + row_count milp.now + 1 ≤ vec_capacity has_high.old }
     ensures bounds { IfOk result (λ _. AreBounds W.meaning milp.now (column_count milp.now + row_count milp.now + 1)
         low.new.items high.new.items has_high.new.items) }
     ensures wide { IfErr result (λ j. IsWideNumber W.greatest (given_of milp.now) (j - column_count milp.now) j) }
@@ -152,6 +152,41 @@ pub(crate) fn fill_lines<W: Whole>(
     Ok(())
 }
 
+/// Takes room for the numbers of a program and puts them there: the bounds of all columns, and the rows of the start with as
+/// many empty ones behind them. `Err` inside with the row and the column of a number that is out of range. `AllocError`
+/// where that memory can't be had.
+pub(crate) fn fill_numbers<W: Whole>(
+    alloc: Global,
+    milp: &Milp,
+    low: &mut Vec<W>,
+    high: &mut Vec<W>,
+    has_high: &mut Vec<bool>,
+    lines: &mut Rows<W>,
+) -> Result<Result<(), (usize, usize)>, AllocError>
+    requires empty { (low.old.items ≡ []) × ((high.old.items ≡ []) × (has_high.old.items ≡ [])) }
+    requires none { lines.old.rows ≡ [] }
+    requires room { lines.old.room ≡ row_count milp.now + 1 + (row_count milp.now + 1) }
+    requires width { lines.old.width ≡ column_count milp.now + row_count milp.now + 1 }
+    ensures bounds { IfOk result (λ r. IfOk r (λ _. AreBounds W.meaning milp.now (column_count milp.now + row_count milp.now + 1)
+        low.new.items high.new.items has_high.new.items)) }
+    ensures lines { IfOk result (λ r. IfOk r (λ _. AreLines W.meaning milp.now (row_count milp.now) lines.new.rows)) }
+    ensures count { IfOk result (λ r. IfOk r (λ _. length lines.new.rows ≡ row_count milp.now + 1 + (row_count milp.now + 1))) }
+    ensures width { IfOk result (λ r. IfOk r (λ _. lines.new.width ≡ lines.old.width)) }
+    ensures wide { IfOk result (λ r. IfErr r (λ (i, j). IsWideNumber W.greatest (given_of milp.now) i j)) }
+    ensures row { IfOk result (λ r. IfErr r (λ (i, j). i ≤ row_count milp.now)) }
+{
+    let columns = milp.columns();
+    let end = columns + milp.rows() + 1;
+    low.reserve_exact(end)?;
+    high.reserve_exact(end)?;
+    has_high.reserve_exact(end)?;
+    let mut line = Vec::with_capacity(alloc, end)?;
+    match fill_bounds(milp, low, high, has_high) {
+        Ok(()) => Ok(fill_lines(milp, &mut line, lines)),
+        Err(column) => Ok(Err((row_of_bound(column, columns), column))),
+    }
+}
+
 /// The basis of the start: each row's slack behind place 0, which is unused.
 pub(crate) fn slack_basis(
     alloc: Global,
@@ -181,9 +216,7 @@ pub(crate) fn row_of_bound(column: usize, columns: usize) -> usize
 pub(crate) fn all_false(alloc: Global, count: usize) -> Result<Vec<bool>, AllocError>
     ensures { IfOk result (λ tests. tests.items ≡ replicate count false) }
 {
-    let mut tests = Vec::with_capacity(alloc, count)?;
-    for _test in 0..count {
-        tests.push_reserved(false);
-    }
+    let mut tests = Vec::new(alloc);
+    tests.resize(count, false)?;
     Ok(tests)
 }

@@ -206,7 +206,9 @@ pub fn solve<W: Whole>(alloc: Global, lp: &Lp<'_>, budget: u32) -> Result<LpEnd,
     match Tableau::<W>::begin(alloc, lp)? {
         Ok(mut tableau) => {
             let choice = run(&mut tableau, &mut room.trail, budget);
-            Ok(tableau.end(choice, room))
+            let end = tableau.end(choice, room);
+            drop(tableau);
+            Ok(end)
         }
         Err((row, col)) => Ok(end_at_start(rows, row, col, room)),
     }
@@ -224,9 +226,20 @@ pub fn solve_either<N: Whole, M: Whole>(
     ensures within { IfOk result (λ (end, _). HasNumbersWithin (2 ^ 127 - 1) end) }
 {
     match solve::<N>(alloc, lp, budget)? {
-        LpEnd::Wide { trail, op, .. } => {
-            let end = solve::<M>(alloc, lp, budget)?;
-            Ok((end, Used::Second { trail, op }))
+        LpEnd::Wide {
+            trail,
+            op,
+            mults,
+            ..
+        } => {
+            drop(mults);
+            match solve::<M>(alloc, lp, budget) {
+                Ok(end) => Ok((end, Used::Second { trail, op })),
+                Err(error) => {
+                    drop(trail);
+                    Err(error)
+                }
+            }
         }
         end => Ok((end, Used::First)),
     }

@@ -10,7 +10,7 @@ ghost use Rattle.simplex.specs.Givens.{given_of};
 ghost use Rattle.simplex.specs.States.{KeepsLaws, State, tableau_of};
 ghost use Rattle.simplex.specs.Starts.{IsInRange};
 
-use crate::filling::{all_false, fill_bounds, fill_lines, row_of_bound, slack_basis};
+use crate::filling::{all_false, fill_numbers, slack_basis};
 use crate::lp::Lp;
 use crate::rows::exchange_rows;
 use numbers::{W128, Whole};
@@ -97,34 +97,29 @@ impl<'a, W: Whole> Tableau<'a, W> {
         let rows = milp.rows();
         let count = rows + 1;
         let end = columns + count;
-        let mut low = Vec::with_capacity(alloc, end)?;
-        let mut high = Vec::with_capacity(alloc, end)?;
-        let mut has_high = Vec::with_capacity(alloc, end)?;
-        let mut line = Vec::with_capacity(alloc, end)?;
-        let mut lines = Rows::new(alloc, count + count, end)?;
-        let cells = Vec::with_capacity(alloc, end)?;
         let marks = all_false(alloc, count)?;
         let at_high = all_false(alloc, end)?;
         let basis = slack_basis(alloc, columns, rows)?;
-        match fill_bounds(milp, &mut low, &mut high, &mut has_high) {
-            Ok(()) => {}
-            Err(column) => return Ok(Err((row_of_bound(column, columns), column))),
+        let cells = Vec::with_capacity(alloc, end)?;
+        let mut lines = Rows::new(alloc, count + count, end)?;
+        let mut low = Vec::new(alloc);
+        let mut high = Vec::new(alloc);
+        let mut has_high = Vec::new(alloc);
+        let filled = fill_numbers(alloc, milp, &mut low, &mut high, &mut has_high, &mut lines)?;
+        match filled {
+            Ok(()) => Ok(Ok(Tableau {
+                milp,
+                lines,
+                marks,
+                cells,
+                low,
+                high,
+                has_high,
+                basis,
+                at_high,
+            })),
+            Err(place) => Ok(Err(place)),
         }
-        match fill_lines(milp, &mut line, &mut lines) {
-            Ok(()) => {}
-            Err(place) => return Ok(Err(place)),
-        }
-        Ok(Ok(Tableau {
-            milp,
-            lines,
-            marks,
-            cells,
-            low,
-            high,
-            has_high,
-            basis,
-            at_high,
-        }))
     }
 
     /// Makes a good exchange; it takes no memory. `Err` with an operation of the exchange whose exact value is out of W's

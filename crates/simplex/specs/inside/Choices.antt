@@ -1,5 +1,5 @@
 -- Which column a row takes, in terms of lists: a row, the number of its basic column, bounds, and where columns stand.
-use Rattle.std.specs.Prelude.{◌≡◌, ◌≢◌, ℕ, ◌+◌, ◌-◌, ◌*◌, ◌≤◌, ◌<◌, ◌⊎◌, Bool, true, false, List, length, slice_index_or, ℤ, ◌+ℤ◌, ◌*ℤ◌, unsigned_abs}
+use Rattle.std.specs.Prelude.{◌≡◌, ◌≢◌, ℕ, ◌-◌, ◌*◌, ◌≤◌, ◌<◌, ◌⊎◌, Bool, true, false, List, length, slice_index_or, ℤ, ◌+ℤ◌, ◌*ℤ◌, unsigned_abs}
 use Rattle.algebra.specs.Sums.{sum_to}
 use Rattle.term_store.specs.declared.term.Term.{Term}
 use Rattle.tableau.specs.Signs.{IsSameSign, IsOppositeSign}

@@ -1,4 +1,3 @@
-use Rattle.std.proofs.Common.{rules}
 use Rattle.std.specs.Prelude.{FitsSigned}
 use Rattle.std.specs.Int.{w64, w128}
 use Rattle.std.proofs.lemmas.Int.{to_z-of_z}
@@ -7,11 +6,19 @@ use Rattle.safe_bounds.proofs.leaf.reduced_cost.Goals as goal
 
 pub minus-requires : goal.minus-requires
 minus-requires c =
-    let word : FitsSigned w64 c.cost.result = search rules in
+    let word : FitsSigned w64 c.cost.result = record { sfits = c.cost.type_inv } in
     let scale : FitsSigned w128 c.args.scale = c.ranges.scale in
     let drawn : FitsSigned w128 c.args.drawn = c.ranges.drawn in
-    let wide : FitsSigned w128 c.from.result = search rules in
-    let product : FitsSigned w128 c.times.result = search rules in
-    let value = simp to_z-of_z at c.from.ensures in
-    let times = rw value at (simp to_z-of_z at c.times.ensures) in
+    let product : FitsSigned w128 c.times_word.result = record { sfits = c.times_word.type_inv } in
+    let times = simp to_z-of_z at c.times_word.ensures.value in
     simp to_z-of_z (rw times (reduced_fits c.args.scale c.cost.result c.args.drawn c.requires.scale word c.requires.drawn))
+
+pub returns : goal.returns
+returns c =
+    let word : FitsSigned w64 c.cost.result = record { sfits = c.cost.type_inv } in
+    let scale : FitsSigned w128 c.args.scale = c.ranges.scale in
+    let drawn : FitsSigned w128 c.args.drawn = c.ranges.drawn in
+    let product : FitsSigned w128 c.times_word.result = record { sfits = c.times_word.type_inv } in
+    let difference : FitsSigned w128 c.minus.result = record { sfits = c.minus.type_inv } in
+    let times = rw c.cost.ensures at (simp to_z-of_z at c.times_word.ensures.value) in
+    simp to_z-of_z (rw times at (simp to_z-of_z at c.minus.ensures))

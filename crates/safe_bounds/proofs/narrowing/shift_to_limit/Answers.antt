@@ -1,8 +1,9 @@
-use Rattle.std.proofs.Common.{rules, arith, ◌≡◌, ◌<◌, length, replicate, to_z, of_z, ap, sym, ◌∙◌, refl}
-use Rattle.std.specs.Prelude.{ℤ, pos, FitsSigned, IsTrue, true, false, ◌↔◌}
+use Rattle.std.proofs.Common.{rules, arith, ◌≡◌, ◌<◌, length, replicate, sym, ◌∙◌, refl}
+use Rattle.std.specs.Prelude.{pos, FitsSigned, IsTrue, true, false, ◌↔◌}
 use Rattle.std.specs.Int.{w128}
 use Rattle.std.proofs.lemmas.Int.{to_z-of_z}
 use Rattle.safe_bounds.specs.Narrowing.{AreNarrow}
+use Rattle.safe_bounds.proofs.StepWidths.{none_of_bits}
 use Rattle.safe_bounds.proofs.NarrowingLemmas.{narrowed_by_none, narrow_by_none, not_narrow, narrowed_to_none}
 use Rattle.safe_bounds.proofs.narrowing.shift_to_limit.Goals as goal
 
@@ -11,9 +12,6 @@ unchanged P p = (λ t q. cc, λ h. absurd (h p))
 
 changed : (P : Type 0) → (P → ⊥) → IsTrue true ↔ (P → ⊥)
 changed P n = (λ t. n, λ h. refl)
-
-is_zero : (x : ℤ) → FitsSigned w128 x → of_z w128 x ≡ 0 → x ≡ pos 0
-is_zero x f e = sym (to_z-of_z w128 x f) ∙ ap (to_z w128) e
 
 pub returns-then-bits-eq0-clause-narrowed : goal.returns-then-bits-eq0-clause-narrowed
 returns-then-bits-eq0-clause-narrowed c =
@@ -33,7 +31,7 @@ returns-then-narrowed-eq0-clause-narrowed c =
     let new : FitsSigned w128 c.shift-narrowed.result = search rules in
     let least = simp to_z-of_z at c.least_shift-bits.ensures.least in
     let value = simp to_z-of_z at c.shift-narrowed.ensures in
-    let fallen = sym value ∙ is_zero c.shift-narrowed.result new c.if-narrowed-eq0.true in
+    let fallen = sym value ∙ none_of_bits c.shift-narrowed.result new c.if-narrowed-eq0.true in
     let zeros : c.fill.new.self ≡ replicate (length c.args.mults.now) (pos 0) = c.fill.ensures.after (λ y e. e) in
     narrowed_to_none c.args.scale.now c.args.mults.now c.fill.new.self c.least_shift-bits.result fallen zeros least
 

@@ -10,24 +10,20 @@ pub plus-requires : goal.plus-requires
 plus-requires c =
     let word : FitsSigned w64 c.args.term.value = search rules in
     let mult : FitsSigned w128 c.args.mult = c.ranges.mult in
-    let wide : FitsSigned w128 c.from.result = search rules in
-    let product : FitsSigned w128 c.times.result = search rules in
+    let product : FitsSigned w128 c.times_word.result = record { sfits = c.times_word.type_inv } in
     let old : FitsSigned w128 (get_or c.args.drawn.now (c.args.term.column - 1) (pos 0)) = search rules in
     let here = c.requires.room (c.args.term.column - 1) (pos 0) (omega arith) in
-    let value = simp to_z-of_z at c.from.ensures in
-    let times = rw value at (simp to_z-of_z at c.times.ensures) in
+    let times = simp to_z-of_z at c.times_word.ensures.value in
     simp to_z-of_z (rw times (drawn_fits (get_or c.args.drawn.now (c.args.term.column - 1) (pos 0)) c.args.mult c.args.term.value here c.requires.mult word))
 
 pub returns-clause-drawn : goal.returns-clause-drawn
 returns-clause-drawn c =
     let word : FitsSigned w64 c.args.term.value = search rules in
     let mult : FitsSigned w128 c.args.mult = c.ranges.mult in
-    let wide : FitsSigned w128 c.from.result = search rules in
-    let product : FitsSigned w128 c.times.result = search rules in
-    let total : FitsSigned w128 c.plus.result = search rules in
+    let product : FitsSigned w128 c.times_word.result = record { sfits = c.times_word.type_inv } in
+    let total : FitsSigned w128 c.plus.result = record { sfits = c.plus.type_inv } in
     let old : FitsSigned w128 (get_or c.args.drawn.now (c.args.term.column - 1) (pos 0)) = search rules in
-    let value = simp to_z-of_z at c.from.ensures in
-    let times = rw value at (simp to_z-of_z at c.times.ensures) in
+    let times = simp to_z-of_z at c.times_word.ensures.value in
     let plus = rw times at (simp to_z-of_z at c.plus.ensures) in
     simp to_z-of_z (one_drawn c.args.drawn.now c.args.term c.args.mult c.plus.result c.requires.column plus)
 
@@ -35,12 +31,10 @@ pub returns-clause-width : goal.returns-clause-width
 returns-clause-width c = λ k h.
     let word : FitsSigned w64 c.args.term.value = search rules in
     let mult : FitsSigned w128 c.args.mult = c.ranges.mult in
-    let wide : FitsSigned w128 c.from.result = search rules in
-    let product : FitsSigned w128 c.times.result = search rules in
-    let total : FitsSigned w128 c.plus.result = search rules in
+    let product : FitsSigned w128 c.times_word.result = record { sfits = c.times_word.type_inv } in
+    let total : FitsSigned w128 c.plus.result = record { sfits = c.plus.type_inv } in
     let old : FitsSigned w128 (get_or c.args.drawn.now (c.args.term.column - 1) (pos 0)) = search rules in
-    let value = simp to_z-of_z at c.from.ensures in
-    let times = rw value at (simp to_z-of_z at c.times.ensures) in
+    let times = simp to_z-of_z at c.times_word.ensures.value in
     let plus = rw times at (simp to_z-of_z at c.plus.ensures) in
     let here = h (c.args.term.column - 1) (pos 0) (omega arith) in
     let b = drawn_width k (get_or c.args.drawn.now (c.args.term.column - 1) (pos 0)) c.args.mult c.args.term.value here c.requires.mult word in

@@ -1,4 +1,4 @@
-use Rattle.std.proofs.Common.{◌<◌, inl, inr, true, false, length, arith, sym, refl}
+use Rattle.std.proofs.Common.{◌<◌, inl, inr, length, arith, sym, refl}
 use Rattle.sparse_rows.proofs.LinesLemmas.{line_wider}
 use Rattle.sparse_rows.proofs.SumsLemmas.{meaning_here}
 use Rattle.sparse_rows.proofs.Tests.{told_true, told_false}

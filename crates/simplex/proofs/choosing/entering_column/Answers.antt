@@ -1,4 +1,4 @@
-use Rattle.std.proofs.Common.{true, false, length, arith, sym}
+use Rattle.std.proofs.Common.{length, arith, sym}
 use Rattle.sparse_rows.proofs.LinesLemmas.{line_wider}
 use Rattle.simplex.specs.inside.Choices.{MayEnter}
 use Rattle.simplex.proofs.Ratios.{best_none, best_skipped, best_replaced, best_kept, best_wide, t_end, t_entry, best_chosen, toward_same}

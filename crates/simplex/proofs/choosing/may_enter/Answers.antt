@@ -1,4 +1,4 @@
-use Rattle.std.proofs.Common.{◌≡◌, ◌<◌, true, false, length, arith, sym, ◌∙◌}
+use Rattle.std.proofs.Common.{◌≡◌, ◌<◌, true, length, arith, sym, ◌∙◌}
 use Rattle.sparse_rows.proofs.SumsLemmas.{meaning_here}
 use Rattle.simplex.proofs.choosing.may_enter.Goals as goal
 

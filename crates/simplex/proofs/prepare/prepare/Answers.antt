@@ -1,9 +1,40 @@
-use Rattle.std.proofs.Common.{ℕ, ◌+◌, ◌<◌, [], get_or, length, ◌∙◌, subst}
+use Rattle.std.proofs.Common.{ℕ, ◌+◌, ◌<◌, List, [], get_or, length, ap, sym, ◌∙◌, subst}
+use Rattle.term_store.specs.declared.term.Term.{Term}
+use Rattle.sparse_rows.specs.Lines.{IsLine, entry_of}
 use Rattle.std.specs.Prelude.{vec_capacity}
 use Rattle.std.proofs.Math.ListN.{length-set}
-use Rattle.simplex.proofs.Preparing.{prepared_more}
+use Rattle.simplex.proofs.Preparing.{prepared_more, leaves_same, wide_row_same}
 use Rattle.simplex.proofs.prepare.prepare.Goals as goal
 use Rattle.simplex.specs.inside.Rows.{IsPrepared}
+
+pub prepare_line-requires-clause-row_line : goal.prepare_line-requires-clause-row_line
+prepare_line-requires-clause-row_line g c =
+    let same = c.loop-k.invariant.0.same c.args.row c.requires.row in
+    subst (λ (n : ℕ). IsLine g.W.Whole.meaning 0 n (get_or c.loop-k.lines.rows c.args.row [])) (sym c.loop-k.invariant.1.1.1)
+    (subst (λ (ts : List (Term g.row.W.Denot)). IsLine g.W.Whole.meaning 0 (vec_capacity c.args.cells.now) ts) (sym same) (c.requires.rising c.args.row c.requires.row))
+
+pub prepare_line-requires-clause-other_line : goal.prepare_line-requires-clause-other_line
+prepare_line-requires-clause-other_line g c =
+    let same = c.loop-k.invariant.0.same c.loop-k.k c.loop-k-test.true in
+    subst (λ (n : ℕ). IsLine g.W.Whole.meaning 0 n (get_or c.loop-k.lines.rows c.loop-k.k [])) (sym c.loop-k.invariant.1.1.1)
+    (subst (λ (ts : List (Term g.row.W.Denot)). IsLine g.W.Whole.meaning 0 (vec_capacity c.args.cells.now) ts) (sym same) (c.requires.rising c.loop-k.k c.loop-k-test.true))
+
+pub prepare_line-requires-clause-pivot : goal.prepare_line-requires-clause-pivot
+prepare_line-requires-clause-pivot g c =
+    let same = c.loop-k.invariant.0.same c.args.row c.requires.row in
+    c.requires.pivot ∙ ap (λ (ts : List (Term g.row.W.Denot)). entry_of g.W.Whole.meaning ts c.args.col) (sym same)
+
+pub prepare_line-requires-clause-entries : goal.prepare_line-requires-clause-entries
+prepare_line-requires-clause-entries g c =
+    leaves_same g.W.Whole.meaning c.args.row c.args.col c.loop-k.k (vec_capacity c.args.cells.now) (vec_capacity c.loop-k.cells) _ _ _ _ c.loop-k.invariant.1.1.1
+    (c.loop-k.invariant.0.same c.args.row c.requires.row) (c.loop-k.invariant.0.same c.loop-k.k c.loop-k-test.true) (c.requires.entries c.loop-k.k c.loop-k-test.true)
+
+pub returns-in-Err-clause-wide : goal.returns-in-Err-clause-wide
+returns-in-Err-clause-wide g c = (
+  c.loop-k-test.true,
+  wide_row_same g.W.Whole.meaning c.args.row c.args.col c.loop-k.k (vec_capacity c.args.cells.now) (vec_capacity c.loop-k.cells) _ _ _ _ c.loop-k.invariant.1.1.1
+      (c.loop-k.invariant.0.same c.args.row c.requires.row) (c.loop-k.invariant.0.same c.loop-k.k c.loop-k-test.true) g.W.Whole.greatest c.in-Err.column c.in-Err.ensures.wide,
+)
 
 pub loop-k-preserved : goal.loop-k-preserved
 loop-k-preserved g c =

@@ -35,6 +35,9 @@ write_line-requires-clause-positive g c =
     ∙ same_cells _ _ _ _ _ _ _ _ c.widened.ensures c.widened-2.ensures (ap (E j) c.row-2.ensures) (ap (E j) c.row.ensures)))
     _ (c.common_divisor.ensures _ line) c.requires.entries.0 c.requires.entries.1 c.requires.entries.2
 
+pub write_line-requires-clause-divides : goal.write_line-requires-clause-divides
+write_line-requires-clause-divides g c = λ end line j l. (c.common_divisor.ensures end line).divides j l
+
 pub write_line-requires-clause-line : goal.write_line-requires-clause-line
 write_line-requires-clause-line g c =
     let P : List (Term g.row.T.Denot) → Type 0 = λ ts. IsLine g.T.Whole.meaning 0 (vec_capacity c.args.cells.now) ts in

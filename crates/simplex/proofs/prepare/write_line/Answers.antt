@@ -1,5 +1,5 @@
-use Rattle.std.proofs.Common.{List, [], get_or, arith, ap, sym, ◌∙◌, subst, get_or-set_same}
-use Rattle.std.specs.Prelude.{ℤ, ◌*ℤ◌}
+use Rattle.std.proofs.Common.{List, [], arith, ap, sym, ◌∙◌, subst, get_or-set_same}
+use Rattle.std.specs.Prelude.{◌*ℤ◌}
 use Rattle.term_store.specs.declared.term.Term.{Term}
 use Rattle.sparse_rows.specs.Lines.{entry_of, IsLine}
 use Rattle.sparse_rows.proofs.LinesLemmas.{line_longer}

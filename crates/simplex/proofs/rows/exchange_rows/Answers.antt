@@ -7,6 +7,15 @@ use Rattle.simplex.specs.inside.Rows.{IsRestood}
 use Rattle.simplex.proofs.Swapping.{changed_row}
 use Rattle.simplex.proofs.rows.exchange_rows.Goals as goal
 
+pub prepare-requires-clause-pivot : goal.prepare-requires-clause-pivot
+prepare-requires-clause-pivot g c =
+    let L : List (Term g.row.W.Denot) → Type 0 = λ ts. IsLine g.W.Whole.meaning 0 (vec_capacity c.args.cells.now) ts in
+    let line = c.requires.rising c.args.row c.requires.row in
+    c.entry-pivot.ensures (vec_capacity c.args.cells.now) (subst L (sym c.row.ensures) line) ∙ ap (λ (ts : List (Term g.row.W.Denot)). entry_of g.W.Whole.meaning ts c.args.col) c.row.ensures
+
+pub prepare-requires-clause-nonzero : goal.prepare-requires-clause-nonzero
+prepare-requires-clause-nonzero g c = λ none. c.requires.nonzero (sym (prepare-requires-clause-pivot g c) ∙ none)
+
 pub returns-clause-changed : goal.returns-clause-changed
 returns-clause-changed g c = λ k l.
     let size : length c.prepare.new.marks ≡ length c.args.marks.now = c.prepare.auto.marks in

@@ -10,8 +10,8 @@ pub returns-in-Ok-clause-end : goal.returns-in-Ok-clause-end
 returns-in-Ok-clause-end g c =
     let program = rw c.in-Ok.is at c.in_ok-tableau.ensures.program in
     let after = subst (λ (p : Program). IsAfter (given_of p) c.run-choice.new.trail.items (tableau_of g.W.Whole.meaning c.run-choice.new.tableau)) (sym c.run-choice.ensures.program) c.run-choice.ensures.trail in
-    subst (λ (p : Program). IsEnd g.W.Whole.greatest p c.args.budget c.end.result) (c.run-choice.ensures.program ∙ program)
-    (c.end.ensures.end c.args.budget (record { within = c.run-choice.ensures.budget; after = after }) c.run-choice.ensures.spent)
+    subst (λ (p : Program). IsEnd g.W.Whole.greatest p c.args.budget c.end-end.result) (c.run-choice.ensures.program ∙ program)
+    (c.end-end.ensures.end c.args.budget (record { within = c.run-choice.ensures.budget; after = after }) c.run-choice.ensures.spent)
 
 pub returns-in-Err-clause-end : goal.returns-in-Err-clause-end
 returns-in-Err-clause-end g c =

@@ -1,5 +1,5 @@
-use Rattle.std.proofs.Common.{◌≡◌, ◌⊎◌, inl, inr, ap, sym, subst, ⊎_elim}
-use Rattle.std.specs.Prelude.{ℤ, ◌*ℤ◌}
+use Rattle.std.proofs.Common.{◌≡◌, inl, inr, ap, sym, subst, ⊎_elim}
+use Rattle.std.specs.Prelude.{◌*ℤ◌}
 use Rattle.numbers.specs.Divisors.{Divides}
 use Rattle.term_store.specs.declared.term.Term.{Term}
 use Rattle.sparse_rows.proofs.Common.{either_divides, zero_scaled, opposite_scaled}

@@ -6,6 +6,8 @@ use Rattle.simplex.proofs.table.Tableau.begin.Goals as goal
 
 pub invariant_of-result : goal.invariant_of-result
 invariant_of-result g c =
+    let bounds = rw c.in-Ok.is at c.in_ok-filled.ensures.bounds in
+    let lines = rw c.in-Ok.is at c.in_ok-filled.ensures.lines in
     let n : c.columns-columns.result ≡ column_count c.args.lp.now.milp.now = c.columns-columns.ensures.count in
     let m : c.rows-rows.result ≡ row_count c.args.lp.now.milp.now = c.rows-rows.ensures.count in
     let count : length c.in_ok-basis.basis.items ≡ row_count c.args.lp.now.milp.now + 1 = (let e = c.in_ok-basis.ensures.count in omega arith) in
@@ -13,36 +15,42 @@ invariant_of-result g c =
     let end : c.columns-columns.result + (c.rows-rows.result + 1) ≡ column_count c.args.lp.now.milp.now + row_count c.args.lp.now.milp.now + 1 = omega arith in
     let standing : c.in_ok-at_high.at_high.items ≡ replicate (column_count c.args.lp.now.milp.now + row_count c.args.lp.now.milp.now + 1) false = c.in_ok-at_high.ensures ∙ ap (λ (k : ℕ). replicate k false) end in
     let marks : length c.in_ok-marks.marks.items ≡ row_count c.args.lp.now.milp.now + 1 = ap length c.in_ok-marks.ensures ∙ (length_replicate (c.rows-rows.result + 1) ∙ (omega arith)) in
-    let width : c.fill_lines.new.lines.width ≡ column_count c.args.lp.now.milp.now + row_count c.args.lp.now.milp.now + 1 = c.fill_lines.ensures.width ∙ (ap (λ s. s.width) c.in_ok-lines.ensures ∙ end) in
+    let width : c.fill_numbers.new.lines.width ≡ column_count c.args.lp.now.milp.now + row_count c.args.lp.now.milp.now + 1 = (rw c.in-Ok.is at c.in_ok-filled.ensures.width) ∙ (ap (λ s. s.width) c.in_ok-lines.ensures ∙ end) in
     let cells : vec_capacity c.in_ok-cells.cells ≡ column_count c.args.lp.now.milp.now + row_count c.args.lp.now.milp.now + 1 = c.in_ok-cells.ensures.exact ∙ end in
-    start_kept g.W.Whole.meaning c.args.lp.now.milp.now c.columns-columns.ensures.limits c.fill_lines.new.lines.rows c.fill_bounds.new.low.items c.fill_bounds.new.high.items c.fill_bounds.new.has_high.items c.in_ok-basis.basis.items c.in_ok-at_high.at_high.items c.in-Ok.ensures.bounds c.in-Ok-fill_lines.ensures.lines count slacks standing (length c.in_ok-marks.marks.items) c.fill_lines.new.lines.width (vec_capacity c.in_ok-cells.cells) marks c.in-Ok-fill_lines.ensures.count width cells
+    start_kept g.W.Whole.meaning c.args.lp.now.milp.now c.columns-columns.ensures.limits c.fill_numbers.new.lines.rows c.fill_numbers.new.low.items c.fill_numbers.new.high.items c.fill_numbers.new.has_high.items c.in_ok-basis.basis.items c.in_ok-at_high.at_high.items bounds lines count slacks standing (length c.in_ok-marks.marks.items) c.fill_numbers.new.lines.width (vec_capacity c.in_ok-cells.cells) marks (rw c.in-Ok.is at c.in_ok-filled.ensures.count) width cells
 
-pub returns-clause-start : goal.returns-clause-start
-returns-clause-start g c =
+pub returns-in-Ok-clause-start : goal.returns-in-Ok-clause-start
+returns-in-Ok-clause-start g c =
+    let bounds = rw c.in-Ok.is at c.in_ok-filled.ensures.bounds in
+    let lines = rw c.in-Ok.is at c.in_ok-filled.ensures.lines in
     let n : c.columns-columns.result ≡ column_count c.args.lp.now.milp.now = c.columns-columns.ensures.count in
     let m : c.rows-rows.result ≡ row_count c.args.lp.now.milp.now = c.rows-rows.ensures.count in
     let count : length c.in_ok-basis.basis.items ≡ row_count c.args.lp.now.milp.now + 1 = (let e = c.in_ok-basis.ensures.count in omega arith) in
     let slacks : (i : ℕ) → 1 ≤ i → i ≤ row_count c.args.lp.now.milp.now → get_or c.in_ok-basis.basis.items i 0 ≡ column_count c.args.lp.now.milp.now + i = λ i first last. c.in_ok-basis.ensures.slacks i first (omega arith) ∙ ap (λ (k : ℕ). k + i) n in
     let end : c.columns-columns.result + (c.rows-rows.result + 1) ≡ column_count c.args.lp.now.milp.now + row_count c.args.lp.now.milp.now + 1 = omega arith in
     let standing : c.in_ok-at_high.at_high.items ≡ replicate (column_count c.args.lp.now.milp.now + row_count c.args.lp.now.milp.now + 1) false = c.in_ok-at_high.ensures ∙ ap (λ (k : ℕ). replicate k false) end in
-    started g.W.Whole.meaning c.args.lp.now.milp.now c.columns-columns.ensures.limits c.fill_lines.new.lines.rows c.fill_bounds.new.low.items c.fill_bounds.new.high.items c.fill_bounds.new.has_high.items c.in_ok-basis.basis.items c.in_ok-at_high.at_high.items c.in-Ok.ensures.bounds c.in-Ok-fill_lines.ensures.lines count slacks standing
+    started g.W.Whole.meaning c.args.lp.now.milp.now c.columns-columns.ensures.limits c.fill_numbers.new.lines.rows c.fill_numbers.new.low.items c.fill_numbers.new.high.items c.fill_numbers.new.has_high.items c.in_ok-basis.basis.items c.in_ok-at_high.at_high.items bounds lines count slacks standing
 
-pub returns-clause-reached : goal.returns-clause-reached
-returns-clause-reached g c =
+pub returns-in-Ok-clause-reached : goal.returns-in-Ok-clause-reached
+returns-in-Ok-clause-reached g c =
+    let bounds = rw c.in-Ok.is at c.in_ok-filled.ensures.bounds in
+    let lines = rw c.in-Ok.is at c.in_ok-filled.ensures.lines in
     let n : c.columns-columns.result ≡ column_count c.args.lp.now.milp.now = c.columns-columns.ensures.count in
     let m : c.rows-rows.result ≡ row_count c.args.lp.now.milp.now = c.rows-rows.ensures.count in
     let count : length c.in_ok-basis.basis.items ≡ row_count c.args.lp.now.milp.now + 1 = (let e = c.in_ok-basis.ensures.count in omega arith) in
     let slacks : (i : ℕ) → 1 ≤ i → i ≤ row_count c.args.lp.now.milp.now → get_or c.in_ok-basis.basis.items i 0 ≡ column_count c.args.lp.now.milp.now + i = λ i first last. c.in_ok-basis.ensures.slacks i first (omega arith) ∙ ap (λ (k : ℕ). k + i) n in
     let end : c.columns-columns.result + (c.rows-rows.result + 1) ≡ column_count c.args.lp.now.milp.now + row_count c.args.lp.now.milp.now + 1 = omega arith in
     let standing : c.in_ok-at_high.at_high.items ≡ replicate (column_count c.args.lp.now.milp.now + row_count c.args.lp.now.milp.now + 1) false = c.in_ok-at_high.ensures ∙ ap (λ (k : ℕ). replicate k false) end in
-    start_reached g.W.Whole.meaning c.args.lp.now.milp.now c.columns-columns.ensures.limits c.fill_lines.new.lines.rows c.fill_bounds.new.low.items c.fill_bounds.new.high.items c.fill_bounds.new.has_high.items c.in_ok-basis.basis.items c.in_ok-at_high.at_high.items c.in-Ok.ensures.bounds c.in-Ok-fill_lines.ensures.lines count slacks standing
+    start_reached g.W.Whole.meaning c.args.lp.now.milp.now c.columns-columns.ensures.limits c.fill_numbers.new.lines.rows c.fill_numbers.new.low.items c.fill_numbers.new.high.items c.fill_numbers.new.has_high.items c.in_ok-basis.basis.items c.in_ok-at_high.at_high.items bounds lines count slacks standing
 
-pub returns-clause-in_range : goal.returns-clause-in_range
-returns-clause-in_range g c =
+pub returns-in-Ok-clause-in_range : goal.returns-in-Ok-clause-in_range
+returns-in-Ok-clause-in_range g c =
+    let bounds = rw c.in-Ok.is at c.in_ok-filled.ensures.bounds in
+    let lines = rw c.in-Ok.is at c.in_ok-filled.ensures.lines in
     let n : c.columns-columns.result ≡ column_count c.args.lp.now.milp.now = c.columns-columns.ensures.count in
     let m : c.rows-rows.result ≡ row_count c.args.lp.now.milp.now = c.rows-rows.ensures.count in
     let count : length c.in_ok-basis.basis.items ≡ row_count c.args.lp.now.milp.now + 1 = (let e = c.in_ok-basis.ensures.count in omega arith) in
     let slacks : (i : ℕ) → 1 ≤ i → i ≤ row_count c.args.lp.now.milp.now → get_or c.in_ok-basis.basis.items i 0 ≡ column_count c.args.lp.now.milp.now + i = λ i first last. c.in_ok-basis.ensures.slacks i first (omega arith) ∙ ap (λ (k : ℕ). k + i) n in
     let end : c.columns-columns.result + (c.rows-rows.result + 1) ≡ column_count c.args.lp.now.milp.now + row_count c.args.lp.now.milp.now + 1 = omega arith in
     let standing : c.in_ok-at_high.at_high.items ≡ replicate (column_count c.args.lp.now.milp.now + row_count c.args.lp.now.milp.now + 1) false = c.in_ok-at_high.ensures ∙ ap (λ (k : ℕ). replicate k false) end in
-    start_in_range g.W.Whole.meaning c.args.lp.now.milp.now c.columns-columns.ensures.limits c.fill_lines.new.lines.rows c.fill_bounds.new.low.items c.fill_bounds.new.high.items c.fill_bounds.new.has_high.items c.in_ok-basis.basis.items c.in_ok-at_high.at_high.items c.in-Ok.ensures.bounds c.in-Ok-fill_lines.ensures.lines count slacks standing g.W.Whole.greatest g.met.W.Whole.in_range
+    start_in_range g.W.Whole.meaning c.args.lp.now.milp.now c.columns-columns.ensures.limits c.fill_numbers.new.lines.rows c.fill_numbers.new.low.items c.fill_numbers.new.high.items c.fill_numbers.new.has_high.items c.in_ok-basis.basis.items c.in_ok-at_high.at_high.items bounds lines count slacks standing g.W.Whole.greatest g.met.W.Whole.in_range

@@ -1,6 +1,5 @@
 use Rattle.std.proofs.Common.{List, Bool, arith, ap, ◌∙◌, subst}
 use Rattle.sparse_rows.specs.Sums.{standing_at}
-use Rattle.tableau.specs.Tableaux.{standing}
 use Rattle.simplex.specs.States.{State, KeepsLaws}
 use Rattle.simplex.proofs.Selections.{stands_same}
 use Rattle.simplex.proofs.table.Tableau.bound_of.Goals as goal

@@ -25,6 +25,14 @@ entering_column-requires-clause-line g c =
     subst (λ (n : ℕ). IsLine g.W.Whole.meaning 1 n c.row.result.now) (sym (ap length c.deref.ensures.value))
     (subst (λ (ts : List (Term g.row.W.Denot)). IsLine g.W.Whole.meaning 1 (length c.self.inside.low.items) ts) (sym line) (line_first g.W.Whole.meaning (state g.W.Whole.meaning c.self.inside.milp.now c.self.inside.low.items c.self.inside.high.items c.self.inside.has_high.items c.self.inside.lines.rows c.self.inside.basis.items c.self.inside.at_high.items) c.self.invariant.reached c.args.row i_row))
 
+pub entering_column-requires-clause-costs : goal.entering_column-requires-clause-costs
+entering_column-requires-clause-costs g c =
+    let rows : List (List (Term g.row.W.Denot)) = c.self.inside.lines.rows in
+    let first : 0 < row_count c.self.inside.milp.now + 1 = omega arith in
+    let front = get_or-take (row_count c.self.inside.milp.now + 1) rows 0 [] first in
+    subst (λ (n : ℕ). IsLine g.W.Whole.meaning 0 n c.row-2.result.now) (sym (ap length c.deref.ensures.value))
+    (subst (λ (ts : List (Term g.row.W.Denot)). IsLine g.W.Whole.meaning 0 (length c.self.inside.low.items) ts) (sym (c.row-2.ensures ∙ sym front)) (c.self.invariant.reached.shape.rising 0 (omega arith)))
+
 pub overflow_cast-result-in-Err : goal.overflow_cast-result-in-Err
 overflow_cast-result-in-Err g c =
     let i_row : IsRow (tableau_of g.W.Whole.meaning (state g.W.Whole.meaning c.self.inside.milp.now c.self.inside.low.items c.self.inside.high.items c.self.inside.has_high.items c.self.inside.lines.rows c.self.inside.basis.items c.self.inside.at_high.items)) c.args.row = subst (λ (s : State g.row.W.Denot). IsRow (tableau_of g.W.Whole.meaning s) c.args.row) (sym c.self.view_is) c.requires.row in
