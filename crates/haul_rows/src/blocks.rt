@@ -9,6 +9,7 @@ ghost use Rattle.road_types.specs.HaulForms.{greatest_haul_out, transit_form, tr
 ghost use Rattle.road_types.specs.RecordFaults.{is_number};
 ghost use Rattle.road_types.specs.Road.{hop, section_count, hop_count, block_count};
 
+use crate::sides::{cut_cap, fill_cap};
 use form_rows::FormRow;
 use road_types::{Column, Road};
 use term_store::Rows;
@@ -135,7 +136,7 @@ fn cut_stop_row(road: &Road, block: usize, stage: usize, row: &mut FormRow, rows
     ensures { Grew rows.old rows.new (form_terms road.now (cut_stop_form road.now block stage) ∷ []) }
 {
     let section = road.block(block).section;
-    let cap = opposite(road.section(section).cut_max);
+    let cap = opposite(cut_cap(road, block));
     row.clear();
     row.add_all(
         road,
@@ -156,7 +157,7 @@ fn fill_stop_row(road: &Road, block: usize, stage: usize, row: &mut FormRow, row
     ensures { Grew rows.old rows.new (form_terms road.now (fill_stop_form road.now block stage) ∷ []) }
 {
     let section = road.block(block).section;
-    let cap = opposite(road.section(section).fill_max);
+    let cap = opposite(fill_cap(road, block));
     row.clear();
     row.add_all(
         road,

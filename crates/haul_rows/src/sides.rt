@@ -173,7 +173,7 @@ fn stop_side(road: &Road, row: usize) -> (Side, i64)
 }
 
 /// The most that is cut in a stage at a block's section.
-fn cut_cap(road: &Road, block: usize) -> i64
+pub(crate) fn cut_cap(road: &Road, block: usize) -> i64
     requires accepted { IsAccepted road.now }
     requires block { IsNumber block (block_count road.now) }
     ensures value { result ≡ (section road.now (block_of road.now block).section).cut_max }
@@ -183,7 +183,7 @@ fn cut_cap(road: &Road, block: usize) -> i64
 }
 
 /// The most that is filled in a stage at a block's section.
-fn fill_cap(road: &Road, block: usize) -> i64
+pub(crate) fn fill_cap(road: &Road, block: usize) -> i64
     requires accepted { IsAccepted road.now }
     requires block { IsNumber block (block_count road.now) }
     ensures value { result ≡ (section road.now (block_of road.now block).section).fill_max }

@@ -1,12 +1,15 @@
 -- Writing number after number, and stage after stage.
-use Rattle.std.proofs.Common.{◌≡◌, ℕ, ℤ, ◌+◌, ◌<◌, zero, suc, List, [], ◌∷◌, ◌++◌, map, length, get_or, take, refl, sym, ap, ◌∙◌, arith, append_assoc}
+use Rattle.std.proofs.Common.{◌≡◌, ℕ, ℤ, ◌+◌, ◌^◌, ◌<◌, zero, suc, List, [], ◌∷◌, ◌++◌, map, length, get_or, take, pos, codes, subst, refl, sym, ap, ◌∙◌, arith, append_assoc}
+use Rattle.std.proofs.lemmas.List.Elements.{All-from_get_or}
 use Rattle.std.specs.List.{join_with_byte, flat_map}
 use Rattle.std.specs.Fmt.{signed_decimal}
 use Rattle.std.proofs.lemmas.List.{append-nil, map-append, take_more, flat_map_more}
 use Rattle.plan_rules.specs.declared.plan.Piece.{Piece}
+use Rattle.road_types.specs.declared.road.Road.{Road}
+use Rattle.plan_rules.specs.declared.plan.Plan.{Plan}
 use Rattle.plan_text.specs.declared.rows.Tables.{Tables}
-use Rattle.plan_text.specs.LineForms.{spelled_row}
-use Rattle.plan_text.specs.PlanText.{piece_text, stage_text, stages_text}
+use Rattle.plan_text.specs.LineForms.{spelled_row, spelled_line}
+use Rattle.plan_text.specs.PlanText.{piece_text, stage_text, stages_text, tables_of, plan_text, AreBytes}
 
 join_push : (c : ℕ) (w : List ℕ) (ws : List (List ℕ)) (v : List ℕ) → join_with_byte c (w ∷ (ws ++ (v ∷ []))) ≡ join_with_byte c (w ∷ ws) ++ (c ∷ v)
 join_push c w [] v = refl
@@ -44,3 +47,23 @@ stages_more start tables n =
 pub pieces_more : (start : List ℕ) (pieces : List Piece) (i : ℕ) (d : Piece) → i < length pieces → (start ++ flat_map piece_text (take i pieces)) ++ piece_text (get_or pieces i d) ≡ start ++ flat_map piece_text (take (i + 1) pieces)
 pieces_more start pieces i d lt =
     flat_map_more piece_text start (take i pieces) (get_or pieces i d) ∙ ap (λ ps. start ++ flat_map piece_text ps) (sym (take_more pieces i d lt))
+
+-- five parts, one behind the other
+five_parts : (a b c d e none first second third fourth fifth : List ℕ) → none ≡ [] → first ≡ none ++ a → second ≡ first ++ b → third ≡ second ++ c → fourth ≡ third ++ d → fifth ≡ fourth ++ e → fifth ≡ a ++ (b ++ (c ++ (d ++ e)))
+five_parts a b c d e none first second third fourth fifth n f s t o i =
+    i
+    ∙ ap (λ x. x ++ e) (o ∙ ap (λ x. x ++ d) (t ∙ ap (λ x. x ++ c) (s ∙ ap (λ x. x ++ b) (f ∙ ap (λ x. x ++ a) n))))
+    ∙ append_assoc ((a ++ b) ++ c) d e
+    ∙ append_assoc (a ++ b) c (d ++ e)
+    ∙ append_assoc a b (c ++ (d ++ e))
+
+-- what was written part by part is the text of the plan
+pub parts_of_text : (road : Road) (plan : Plan) (opens : List ℕ) (none first second third fourth fifth : List ℕ) → opens ≡ plan.opens → none ≡ [] → first ≡ none ++ spelled_line (codes "plan") (plan.den ∷ []) → second ≡ first ++ flat_map piece_text plan.pieces → third ≡ second ++ stages_text (tables_of plan) 1 road.stages → fourth ≡ third ++ spelled_line (codes "open") (map pos opens) → fifth ≡ fourth ++ spelled_line (codes "end") [] → fifth ≡ plan_text road plan
+unfolding plan_text
+parts_of_text road plan opens none first second third fourth fifth os n f s t o i =
+    five_parts (spelled_line (codes "plan") (plan.den ∷ [])) (flat_map piece_text plan.pieces) (stages_text (tables_of plan) 1 road.stages) (spelled_line (codes "open") (map pos plan.opens)) (spelled_line (codes "end") []) none first second third fourth fifth n f s t
+    (o ∙ ap (λ os. third ++ spelled_line (codes "open") (map pos os)) os) i
+
+-- numbers that are bytes one by one
+pub are_bytes : (opens all : List ℕ) → ((i : ℕ) → get_or opens i 0 < 2 ^ 8) → opens ≡ all → AreBytes all
+are_bytes opens all each same = subst AreBytes same (All-from_get_or (λ stage. stage < 2 ^ 8) opens 0 (λ i lt. each i))

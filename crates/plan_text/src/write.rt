@@ -27,7 +27,6 @@ pub fn write_plan(
 }
 
 /// The text of the plan, whose openings are these.
-#[tactic(auto, unfolding(crate::specs::PlanText::plan_text))]
 fn text_of(alloc: Global, road: &Road, plan: &Plan, opens: &[u8]) -> Result<Vec<u8>, AllocError>
     requires fits { Fits road.now plan.now }
     requires opens { opens.now ≡ plan.now.opens }

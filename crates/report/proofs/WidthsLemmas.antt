@@ -1,14 +1,15 @@
 -- Heights, offsets and volumes of an admissible plan fit the numbers of the code.
-use Rattle.std.proofs.Common.{ℕ, zero, suc, ◌*◌, ◌^◌, ◌<◌, ◌≤◌, List, [], ◌∷◌, length, arith}
-use Rattle.std.specs.Prelude.{unsigned_abs, neg_ℤ}
+use Rattle.std.proofs.Common.{ℕ, zero, suc, ◌*◌, ◌^◌, ◌<◌, ◌≤◌, List, [], ◌∷◌, length, FitsSigned, arith}
+use Rattle.std.specs.Prelude.{ℤ, pos, ◌*ℤ◌, unsigned_abs, neg_ℤ}
+use Rattle.std.specs.Int.{w64}
 use Rattle.std.proofs.lemmas.Int.{ints}
 use Rattle.algebra.specs.Sums.{sum_to}
 use Rattle.algebra.proofs.SumsLemmas.{unsigned_abs_sum_to}
-use Rattle.algebra.proofs.Magnitudes.{unsigned_abs_mul_le}
+use Rattle.algebra.proofs.Magnitudes.{unsigned_abs_mul_le, fits_w64}
 use Rattle.road_types.specs.Numbered.{numbered, IsNumber}
 use Rattle.road_types.specs.Road.{section, section_count, hop_count}
 use Rattle.road_types.specs.Volumes.{thickness_of, net_volume}
-use Rattle.road_types.specs.WellFormed.{IsWellFormed, IsSolidSlab, IsSlabTable}
+use Rattle.road_types.specs.WellFormed.{IsBetween, IsStation, IsWellFormed, IsSolidSlab, IsSlabTable}
 use Rattle.road_types.specs.declared.road.Road.{Road}
 use Rattle.road_types.specs.declared.road.Slab.{Slab}
 use Rattle.plan_rules.specs.Fits.{Fits}
@@ -52,6 +53,9 @@ offset_small road plan ok f a i n =
     let below : unsigned_abs (neg_ℤ (thickness_of (section road i).cut)) ≤ 40000000 = omega (arith, ints, cut) in
     omega (arith, within_width _ _ plan.den (offset_of road plan i) 40000000 f.den below fill v.range)
 
+pub offset_wider : (n : ℕ) → n ≤ 2 ^ 66 → n ≤ 2 ^ 86
+offset_wider n h = omega arith
+
 pub height_small : (road : Road) (plan : Plan) → IsWellFormed road → Fits road plan → IsAdmissible road plan → (i : ℕ) → IsNumber i (section_count road)
     → unsigned_abs (height_at road plan (section road i).station) < 2 ^ 127
 height_small road plan ok f a i n =
@@ -75,3 +79,11 @@ net_small road plan ok f a i n =
 
 pub few_hops : (road : Road) → IsWellFormed road → (h : ℕ) → IsNumber h (hop_count road) → h < 60
 few_hops road ok h n = omega (arith, n.at_most, ok.counted.hops_count, ok.counted.sections_to)
+
+-- a station in metres
+pub metres_fit : (station step : ℤ) → IsStation station → IsBetween (pos 1) (pos 1000) step → FitsSigned w64 (station *ℤ step)
+metres_fit station step p q =
+    let along : unsigned_abs station ≤ 100000 = omega (arith, ints) in
+    let by : unsigned_abs step ≤ 1000 = omega (arith, ints) in
+    let width = unsigned_abs_mul_le station step 100000 1000 along by in
+    fits_w64 (station *ℤ step) (omega (arith, width))

@@ -84,7 +84,6 @@ pub(crate) fn bound_text(alloc: Global, bound: &Frac) -> Result<String, AllocErr
 }
 
 /// Whether there is a gap between a cost and a bound.
-#[tactic(auto, using(crate::proofs::CellsLemmas::gap_closed, crate::proofs::CellsLemmas::gap_open))]
 pub(crate) fn gap_text(num: i128, den: i128, bound: &Frac) -> &'static str
     requires num { unsigned_abs num < 2 ^ 127 }
     requires den { IsScale den }

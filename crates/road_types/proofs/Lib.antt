@@ -5,6 +5,7 @@ pub mod ListRests
 pub mod SlabWidths
 pub mod SegmentLemmas
 pub mod HeightWidths
+pub mod LoadWidths
 pub mod ColumnPlaces
 pub mod FormCounts
 pub mod WeightReaches

@@ -101,7 +101,7 @@ fn slab_in_range(s: &Slab) -> bool
 fn slabs_in_range(slabs: &[Slab]) -> bool
     ensures { result ≡ list_all slab_in_range slabs.now }
 {
-    slabs.iter().all(|s| slab_in_range(s))
+    slabs.iter().all(slab_in_range)
 }
 
 fn prices_in_range(s: &Section) -> bool
@@ -155,33 +155,33 @@ pub fn stations_in_range(stations: &[i64]) -> bool
 pub fn sections_in_range(sections: &[Section]) -> bool
     ensures { result ≡ list_all section_in_range sections.now }
 {
-    sections.iter().all(|s| section_in_range(s))
+    sections.iter().all(section_in_range)
 }
 
 /// Whether the costs and caps of every hop are in their ranges.
 pub fn hops_in_range(hops: &[Hop]) -> bool
     ensures { result ≡ list_all hop_in_range hops.now }
 {
-    hops.iter().all(|h| hop_in_range(h))
+    hops.iter().all(hop_in_range)
 }
 
 /// Whether the station and the heights of every fixed point are in their ranges.
 pub fn fixed_points_in_range(points: &[Fixed]) -> bool
     ensures { result ≡ list_all fixed_in_range points.now }
 {
-    points.iter().all(|f| fixed_in_range(f))
+    points.iter().all(fixed_in_range)
 }
 
 fn pits_in_range(pits: &[Pit]) -> bool
     ensures { result ≡ list_all pit_in_range pits.now }
 {
-    pits.iter().all(|p| pit_in_range(p))
+    pits.iter().all(pit_in_range)
 }
 
 fn roads_in_range(roads: &[Access]) -> bool
     ensures { result ≡ list_all access_in_range roads.now }
 {
-    roads.iter().all(|a| access_in_range(a))
+    roads.iter().all(access_in_range)
 }
 
 fn blocks_in_range(blocks: &[Block]) -> bool

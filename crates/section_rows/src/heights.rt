@@ -5,7 +5,7 @@ ghost use Rattle.form_rows.specs.FormRows.{form_terms, forms_terms, Grew};
 ghost use Rattle.road_types.specs.RoadPrograms.{terms_of};
 ghost use Rattle.road_types.specs.Accepted.{IsAccepted};
 ghost use Rattle.road_types.specs.Columns.{column_count};
-ghost use Rattle.road_types.specs.Road.{section_count, segment_count, fixed_count, fixed_point};
+ghost use Rattle.road_types.specs.Road.{section as section_of, section_count, segment_count, fixed_count, fixed_point};
 ghost use Rattle.road_types.specs.SectionForms.{height_entries, grade_entries, station_entries, offset_form, offset_forms, next_height_form, next_grade_form, continuity_forms, grade_end_forms, fixed_forms};
 ghost use Rattle.road_types.specs.Forms.{least_form, negated, between_forms};
 ghost use Rattle.road_types.specs.Heights.{segment_length};
@@ -16,6 +16,16 @@ use form_rows::FormRow;
 use road_types::{Column, Road};
 use term_store::Rows;
 
+/// The station of a section.
+fn section_station(road: &Road, section: usize) -> i64
+    requires accepted { IsAccepted road.now }
+    requires section { IsNumber section (section_count road.now) }
+    ensures value { result ≡ (section_of road.now section).station }
+    ensures on_knots { IsOnKnots road.now result }
+{
+    road.section(section).station
+}
+
 /// The row that joins a section's offset to its segment.
 fn offset_row(road: &Road, section: usize, row: &mut FormRow, rows: &mut Rows<i64>)
     requires accepted { IsAccepted road.now }
@@ -24,7 +34,7 @@ fn offset_row(road: &Road, section: usize, row: &mut FormRow, rows: &mut Rows<i6
     requires width { column_count road.now ≤ rows.old.width }
     ensures { Grew rows.old rows.new (form_terms road.now (offset_form road.now section) ∷ []) }
 {
-    let station = road.section(section).station;
+    let station = section_station(road, section);
     let segment = road.segment_of(station);
     let s = road.steps_from(segment, station);
     row.clear();

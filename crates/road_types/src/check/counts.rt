@@ -15,7 +15,7 @@ fn has_few_slabs(s: &Section) -> bool
 fn have_few_slabs(sections: &[Section]) -> bool
     ensures { result ≡ list_all has_few_slabs sections.now }
 {
-    sections.iter().all(|s| has_few_slabs(s))
+    sections.iter().all(has_few_slabs)
 }
 
 fn stretch_counts_hold(road: &Road) -> bool

@@ -15,7 +15,7 @@ fn is_solid(s: &Slab) -> bool
 fn are_solid(slabs: &[Slab]) -> bool
     ensures { result ≡ list_all is_solid slabs.now }
 {
-    slabs.iter().all(|s| is_solid(s))
+    slabs.iter().all(is_solid)
 }
 
 fn is_table(slabs: &[Slab]) -> bool
@@ -34,7 +34,7 @@ fn has_tables(s: &Section) -> bool
 pub(super) fn have_tables(sections: &[Section]) -> bool
     ensures { result ≡ list_all has_tables sections.now }
 {
-    sections.iter().all(|s| has_tables(s))
+    sections.iter().all(has_tables)
 }
 
 fn differs_from(p: &Pit, q: &Pit) -> bool

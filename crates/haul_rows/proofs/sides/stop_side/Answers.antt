@@ -9,7 +9,7 @@ use Rattle.road_types.specs.Forms.{no_form}
 use Rattle.road_types.specs.HaulForms.{cut_stop_form, fill_stop_form}
 use Rattle.road_types.specs.Road.{block_count}
 use Rattle.form_rows.specs.FormRows.{asked}
-use Rattle.form_rows.proofs.PlaceLemmas.{flat_at, pair_first, pair_second, below_two}
+use Rattle.form_rows.proofs.PlaceLemmas.{few_lists, flat_at, pair_first, pair_second, below_two}
 use Rattle.road_types.specs.declared.road.Road.{Road}
 use Rattle.haul_rows.proofs.sides.stop_side.Goals as goal
 
@@ -17,6 +17,10 @@ use Rattle.haul_rows.proofs.sides.stop_side.Goals as goal
 some_width : (n w at : ℕ) → 1 ≤ at → at ≤ n * w → 1 ≤ w
 some_width n zero at low high = absurd (omega arith)
 some_width n (suc w) at low high = omega arith
+
+-- the block of a row
+block_place : (row n w : ℕ) → IsNumber row (n * w) → IsNumber ((row - 1) / w + 1) n
+block_place row n w h = record { from_one = omega arith; at_most = few_lists row n w h.from_one h.at_most (some_width n w row h.from_one h.at_most) }
 
 -- a block has two stop rows for each stage but the first
 stop_width : (road : Road) (k : ℕ) → length (flat_to (λ before. cut_stop_form road k (before + 1) ∷ fill_stop_form road k (before + 1) ∷ []) (road.stages - 1)) ≡ 2 * (road.stages - 1)
@@ -67,3 +71,19 @@ returns-else-row-width-eq0 c =
     let cap : FitsSigned w64 c.fill_cap.result = search rules in
     let right = rw c.fill_cap.ensures.value at (simp to_z-of_z at c.opposite-else-row-width-eq0.ensures) in
     simp to_z-of_z (rw right (sym form))
+
+pub cut_cap-requires-clause-block : goal.cut_cap-requires-clause-block
+cut_cap-requires-clause-block c = block_place c.args.row (block_count c.args.road.now) (2 * (c.args.road.now.stages - 1)) c.requires.row
+
+pub fill_cap-requires-clause-block : goal.fill_cap-requires-clause-block
+fill_cap-requires-clause-block c = block_place c.args.row (block_count c.args.road.now) (2 * (c.args.road.now.stages - 1)) c.requires.row
+
+pub opposite-requires : goal.opposite-requires
+opposite-requires c =
+    let cap : FitsSigned w64 c.cut_cap.result = search rules in
+    simp to_z-of_z c.cut_cap.ensures.from
+
+pub opposite-requires-else-row-width-eq0 : goal.opposite-requires-else-row-width-eq0
+opposite-requires-else-row-width-eq0 c =
+    let cap : FitsSigned w64 c.fill_cap.result = search rules in
+    simp to_z-of_z c.fill_cap.ensures.from

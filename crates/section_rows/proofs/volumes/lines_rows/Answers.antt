@@ -1,4 +1,4 @@
-use Rattle.std.proofs.Common.{◌≡◌, List, [], ◌∷◌, ◌++◌, ap, FitsSigned, rules}
+use Rattle.std.proofs.Common.{◌≡◌, length, List, [], ◌∷◌, ◌++◌, ap, FitsSigned, rules}
 use Rattle.std.specs.Prelude.{ℤ}
 use Rattle.std.specs.Int.{w64}
 use Rattle.std.proofs.lemmas.Int.{to_z-of_z}
@@ -8,7 +8,55 @@ use Rattle.road_types.specs.SectionForms.{volume_entries}
 use Rattle.term_store.specs.declared.term.Term.{Term}
 use Rattle.form_rows.specs.FormRows.{Grew}
 use Rattle.form_rows.proofs.GrewLemmas.{grew_by, grew_more}
+use Rattle.section_rows.proofs.RoomLemmas.{room_now, room_after, width_after, slope_small}
 use Rattle.section_rows.proofs.volumes.lines_rows.Goals as goal
+
+pub above_row-requires-clause-slope : goal.above_row-requires-clause-slope
+above_row-requires-clause-slope c = slope_small c.section_slopes-slopes.result.least c.section_slopes-slopes.ensures.least_small
+
+pub above_row-requires-clause-free : goal.above_row-requires-clause-free
+above_row-requires-clause-free c = room_now (length c.args.rows.now.rows) 3 c.args.rows.now.room c.requires.free
+
+pub below_row-requires-clause-slope : goal.below_row-requires-clause-slope
+below_row-requires-clause-slope c = slope_small c.section_slopes-slopes.result.greatest c.section_slopes-slopes.ensures.greatest_small
+
+pub below_row-requires-clause-free : goal.below_row-requires-clause-free
+below_row-requires-clause-free c =
+    let first = room_after c.args.rows.now c.above_row.new.rows _ 3 c.above_row.ensures c.requires.free in
+    room_now (length c.above_row.new.rows.rows) 2 c.above_row.new.rows.room first
+
+pub below_row-requires-clause-width : goal.below_row-requires-clause-width
+below_row-requires-clause-width c = width_after c.args.rows.now c.above_row.new.rows _ _ c.above_row.ensures c.requires.width
+
+pub below_row-requires-2-clause-slope : goal.below_row-requires-2-clause-slope
+below_row-requires-2-clause-slope c = slope_small c.section_slopes-slopes.result.least c.section_slopes-slopes.ensures.least_small
+
+pub below_row-requires-2-clause-free : goal.below_row-requires-2-clause-free
+below_row-requires-2-clause-free c =
+    let first = room_after c.args.rows.now c.above_row.new.rows _ 3 c.above_row.ensures c.requires.free in
+    let second = room_after c.above_row.new.rows c.below_row.new.rows _ 2 c.below_row.ensures first in
+    room_now (length c.below_row.new.rows.rows) 1 c.below_row.new.rows.room second
+
+pub below_row-requires-2-clause-width : goal.below_row-requires-2-clause-width
+below_row-requires-2-clause-width c =
+    width_after c.above_row.new.rows c.below_row.new.rows _ _ c.below_row.ensures
+    (width_after c.args.rows.now c.above_row.new.rows _ _ c.above_row.ensures c.requires.width)
+
+pub above_row-requires-2-clause-slope : goal.above_row-requires-2-clause-slope
+above_row-requires-2-clause-slope c = slope_small c.section_slopes-slopes.result.greatest c.section_slopes-slopes.ensures.greatest_small
+
+pub above_row-requires-2-clause-free : goal.above_row-requires-2-clause-free
+above_row-requires-2-clause-free c =
+    let first = room_after c.args.rows.now c.above_row.new.rows _ 3 c.above_row.ensures c.requires.free in
+    let second = room_after c.above_row.new.rows c.below_row.new.rows _ 2 c.below_row.ensures first in
+    let third = room_after c.below_row.new.rows c.below_row-2.new.rows _ 1 c.below_row-2.ensures second in
+    room_now (length c.below_row-2.new.rows.rows) 0 c.below_row-2.new.rows.room third
+
+pub above_row-requires-2-clause-width : goal.above_row-requires-2-clause-width
+above_row-requires-2-clause-width c =
+    width_after c.below_row.new.rows c.below_row-2.new.rows _ _ c.below_row-2.ensures
+    (width_after c.above_row.new.rows c.below_row.new.rows _ _ c.below_row.ensures
+    (width_after c.args.rows.now c.above_row.new.rows _ _ c.above_row.ensures c.requires.width))
 
 pub returns : goal.returns
 returns c =

@@ -1,0 +1,18 @@
+use Rattle.std.proofs.Common.{List, [], ◌∷◌, ◌++◌, ap, FitsSigned, rules}
+use Rattle.std.specs.Prelude.{ℤ, pos, neg_ℤ}
+use Rattle.std.specs.Int.{w64}
+use Rattle.std.proofs.lemmas.Int.{to_z-of_z}
+use Rattle.road_types.specs.declared.column.Column.{Column}
+use Rattle.road_types.specs.declared.column.Column.TheVariants.{Offset}
+use Rattle.section_rows.proofs.EntryLemmas.{row_put, height_made}
+use Rattle.section_rows.proofs.heights.offset_row.Goals as goal
+
+pub returns : goal.returns
+returns c =
+    let station : FitsSigned w64 c.section_station-station.result = search rules in
+    let steps : FitsSigned w64 c.steps_from-s.result = search rules in
+    let square : FitsSigned w64 c.square.result = search rules in
+    let made = height_made c.args.road.now c.segment_of-segment.result c.section_station-station.result _ c.steps_from-s.result c.section_station-station.ensures.value
+    (simp to_z-of_z at c.segment_of-segment.ensures.value) (simp to_z-of_z at c.steps_from-s.ensures.value) c.square.result (simp to_z-of_z at c.square.ensures.value) in
+    let with_offset = ap (λ (entries : List (Column × ℤ)). entries ++ ((Offset c.args.section, neg_ℤ (pos 1)) ∷ [])) made in
+    row_put c.args.road.now _ _ _ _ _ _ c.clear.ensures (simp to_z-of_z at c.add_all.ensures.terms) with_offset c.put.ensures
