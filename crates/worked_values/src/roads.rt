@@ -22,7 +22,10 @@ pub(crate) fn file(rt: &HostRuntime, name: &str) -> Vec<u8> {
 /// The road of a file, if it is one.
 pub(crate) fn road(rt: &HostRuntime, name: &str) -> Option<Road> {
     let bytes = file(rt, name);
-    read_road(rt.alloc(), bytes.as_slice(), None).ok()
+    match read_road(rt.alloc(), bytes.as_slice(), None) {
+        Ok(road) => Some(road),
+        Err(_) => None,
+    }
 }
 
 /// All that is read of a road file.
