@@ -253,20 +253,11 @@ pub(crate) fn walk_tree(
         seen_low: false,
     };
     loop {
-        match walk.turn(alloc, road, bound, &mut reader, lines, &mut leaf) {
-            Ok(goes_on) => {
-                if !goes_on {
-                    let (found, has_low) = (walk.found, walk.seen_low);
-                    drop(walk);
-                    drop(leaf);
-                    return Ok(Walked { found, has_low });
-                }
-            }
-            Err(error) => {
-                drop(walk);
-                drop(leaf);
-                return Err(error);
-            }
+        if !walk.turn(alloc, road, bound, &mut reader, lines, &mut leaf)? {
+            return Ok(Walked {
+                found: walk.found,
+                has_low: walk.seen_low,
+            });
         }
     }
 }
