@@ -125,11 +125,18 @@ fn find(alloc: Global, road: &Road, bytes: &[u8]) -> Result<Findings, TextErr>
     let bound_line = lines.number();
     let walked = match walk_tree(alloc, road, &heading.bound, &mut lines) {
         Ok(walked) => walked,
-        Err(error) => return Err(error),
+        Err(error) => {
+            // Dropped by name, which is one step in the proof.
+            drop(heading);
+            return Err(error);
+        }
     };
     match read_end(&mut lines) {
         Ok(()) => {}
-        Err(error) => return Err(error),
+        Err(error) => {
+            drop(heading);
+            return Err(error);
+        }
     }
     match read_nothing(&mut lines) {
         Ok(()) => Ok(Findings {
@@ -137,7 +144,10 @@ fn find(alloc: Global, road: &Road, bytes: &[u8]) -> Result<Findings, TextErr>
             bound_line,
             walked,
         }),
-        Err(error) => Err(error),
+        Err(error) => {
+            drop(heading);
+            Err(error)
+        }
     }
 }
 
@@ -171,18 +181,15 @@ fn stated_cost(planned: &Option<PricedPlan>) -> Option<Frac>
 }
 
 /// The answer where this is first refused in what was found.
-fn answer(findings: Findings, refusal: Option<Refusal>) -> Result<Checked, CheckErr>
-    ensures { AnswersBy findings refusal result }
+fn answer(findings: &Findings, refusal: Option<Refusal>) -> Result<Checked, CheckErr>
+    ensures { AnswersBy findings.now refusal result }
 {
     match refusal {
         Some(Refusal { rule, line }) => Err(CheckErr::Refused { rule, line }),
-        None => {
-            let Heading { planned, bound } = findings.heading;
-            Ok(Checked {
-                cost: stated_cost(&planned),
-                bound,
-            })
-        }
+        None => Ok(Checked {
+            cost: stated_cost(&findings.heading.planned),
+            bound: findings.heading.bound,
+        }),
     }
 }
 
@@ -194,7 +201,9 @@ fn conclude(road: &Road, bytes: &[u8], findings: Findings) -> Result<Checked, Ch
     ensures { Answers road.now bytes.now result }
 {
     let refusal = first_refusal(road, &findings);
-    answer(findings, refusal)
+    let checked = answer(&findings, refusal);
+    drop(findings);
+    checked
 }
 
 /// Whether the bytes are no more than a certificate's text may be.

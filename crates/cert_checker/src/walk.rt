@@ -24,7 +24,7 @@ use std::marker::Model;
 use text_parts::Lines;
 
 /// What was found in a tree: the first refusal, if there is one, and whether some leaf is low.
-#[derive(Drop)]
+#[derive(Clone, Copy)]
 pub(crate) struct Walked {
     pub(crate) found: Option<Refusal>,
     pub(crate) has_low: bool,
@@ -77,7 +77,10 @@ fn low_at(
     ensures { IfOk result (λ found. found ≡ low_refusal (box_program road.now range.now) bound.now line scale mults.now) }
 {
     let milp = build(alloc, road, range)?;
-    low_refusal(alloc, &milp, bound, line, scale, mults)
+    let found = low_refusal(alloc, &milp, bound, line, scale, mults);
+    // Dropped by name, which is one step in the proof.
+    drop(milp);
+    found
 }
 
 fn dead_at(
@@ -94,7 +97,9 @@ fn dead_at(
     ensures { IfOk result (λ found. found ≡ dead_refusal (box_program road.now range.now) line mults.now) }
 {
     let milp = build(alloc, road, range)?;
-    dead_refusal(alloc, &milp, line, mults)
+    let found = dead_refusal(alloc, &milp, line, mults);
+    drop(milp);
+    found
 }
 
 /// Puts the parts of a box before the other boxes, if it can be split so.
@@ -116,7 +121,13 @@ fn split_at(
             line,
         }));
     };
-    boxes.push_front(second)?;
+    match boxes.push_front(second) {
+        Ok(()) => {}
+        Err(error) => {
+            drop(first);
+            return Err(AllocError::from(error));
+        }
+    }
     boxes.push_front(first)?;
     Ok(None)
 }
@@ -174,7 +185,7 @@ impl Walk {
         let Some(range) = self.boxes.pop_front() else {
             return Ok(());
         };
-        self.found = found_at(
+        let found = found_at(
             alloc,
             road,
             bound,
@@ -183,7 +194,9 @@ impl Walk {
             step,
             mults,
             &mut self.boxes,
-        )?;
+        );
+        drop(range);
+        self.found = found?;
         Ok(())
     }
 

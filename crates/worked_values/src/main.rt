@@ -14,15 +14,24 @@ mod small;
 mod stores;
 mod texts;
 mod whole_numbers;
+mod writing;
 
 use answer::answer;
 use std::io;
+use writing::Answer;
 
 fn main(rt: HostRuntime) -> io::Result<()> {
     for line in rt.lines(rt.alloc()) {
         let line = line?;
-        let text = answer(&rt, line.as_str())?;
-        println!(rt; "{line}: {text}")?;
+        print_answer(&rt, line.as_str())?;
     }
     Ok(())
+}
+
+/// Prints a line with what is given for it.
+fn print_answer(rt: &HostRuntime, line: &str) -> io::Result<()> {
+    let mut out = Answer::new(rt.alloc());
+    answer(rt, &mut out, line);
+    let text = out.text()?;
+    println!(rt; "{line}: {text}")
 }

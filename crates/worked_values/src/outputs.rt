@@ -1,26 +1,33 @@
 // The real sink, over the standard output and over one that is slow, and a reader that fails on the way.
 use crate::sinks::put_shown;
 use crate::stores::read_shown;
+use crate::writing::Answer;
 use outside::{OutSink, Sink, read_whole};
-use std::alloc::{AllocError, Global};
+use std::alloc::Global;
 use std::cell::Cell;
 use std::fmt::Display;
 use std::io;
 use std::io::{Print, Read};
 
 /// Puts the text and a line feed, and then no bytes, into the standard output; or words into a slow one.
-pub(crate) fn output(rt: &HostRuntime, rest: &str) -> Result<String, AllocError> {
-    let alloc = rt.alloc();
+pub(crate) fn output(rt: &HostRuntime, out: &mut Answer, rest: &str) {
     match rest.split_once(' ') {
-        Some(("slow", words)) => slow(alloc, words),
+        Some(("slow", words)) => slow(out, words),
         _ => {
-            let text = format!(in alloc; "{rest}\n")?;
-            let mut out = OutSink::new(rt);
-            let first = put_shown(out.put(text.as_bytes()));
-            let none = put_shown(out.put(b""));
-            format!(in alloc; "{first}, {none}")
+            match format!(in rt.alloc(); "{rest}\n") {
+                Ok(text) => put_twice(rt, out, text.as_bytes()),
+                Err(_) => out.fail(),
+            }
         }
     }
+}
+
+/// Puts the bytes, and then none, into the standard output.
+fn put_twice(rt: &HostRuntime, out: &mut Answer, bytes: &[u8]) {
+    let mut sink = OutSink::new(rt);
+    let first = put_shown(sink.put(bytes));
+    let none = put_shown(sink.put(b""));
+    out.put(format_args!("{first}, {none}"));
 }
 
 // A standard output that takes one byte a call, and after some bytes none.
@@ -53,21 +60,18 @@ impl Print for SlowOutput {
     }
 }
 
-/// Puts the words into an output of room for four bytes, and prints after each how it ended and what was taken, as a number in base 16.
-fn slow(alloc: Global, words: &str) -> Result<String, AllocError> {
+/// Puts the words into an output of room for four bytes, and appends after each how it ended and what was taken, as a number in base 16.
+fn slow(out: &mut Answer, words: &str) {
     let slow = SlowOutput {
         taken: Cell::new(0),
         room: Cell::new(4),
     };
-    let mut out = OutSink::new(&slow);
-    let mut all = String::new(alloc);
+    let mut sink = OutSink::new(&slow);
     for word in words.split_whitespace() {
-        let end = put_shown(out.put(word.as_bytes()));
+        let end = put_shown(sink.put(word.as_bytes()));
         let taken = slow.taken.get();
-        let part = format!(in alloc; "{end} {taken:x}, ")?;
-        all.push_str(part.as_str())?;
+        out.put(format_args!("{end} {taken:x}, "));
     }
-    Ok(all)
 }
 
 // A file that gives one byte a call, and then fails.
@@ -91,9 +95,9 @@ impl Read for Broken {
 }
 
 /// Reads two bytes of three, and then two of one.
-pub(crate) fn reader(alloc: Global) -> Result<String, AllocError> {
+pub(crate) fn reader(alloc: Global, out: &mut Answer) {
     let mut file = Broken { left: 3 };
-    let first = read_shown(alloc, read_whole(alloc, &mut file, 2))?;
-    let second = read_shown(alloc, read_whole(alloc, &mut file, 2))?;
-    format!(in alloc; "{first}, {second}")
+    read_shown(out, read_whole(alloc, &mut file, 2));
+    out.put(", ");
+    read_shown(out, read_whole(alloc, &mut file, 2))
 }

@@ -8,10 +8,11 @@ ghost use Rattle.plan_rules.specs.Rules.{IsLimited};
 
 use crate::roads::{file, road};
 use crate::shown;
+use crate::writing::Answer;
 use plan_rules::{Plan, Rule, Verdict, height_at, judge, offset_of};
 use plan_text::{TextErr, read_plan, read_whole_plan, write_plan};
 use road_types::{Road, table_volume};
-use std::alloc::{AllocError, Global};
+use std::alloc::Global;
 use text_parts::Lines;
 
 /// What is asked of the text of a file, on the road of another:
@@ -21,103 +22,112 @@ use text_parts::Lines;
 /// - `behind`: its first line, the denominator of the plan behind that, the number of lines that were given once the plan was read,
 ///   and the line behind the plan;
 /// - `heights`: height, offset and volume of a cut of 10 mm at each section, of a plan that breaks the second rule first.
-pub(crate) fn asked(rt: &HostRuntime, what: &str, names: &str) -> Result<String, AllocError> {
+pub(crate) fn asked(rt: &HostRuntime, out: &mut Answer, what: &str, names: &str) {
     let (road_name, text_name) = names.split_once(' ').unwrap_or((names, ""));
-    match road(rt, road_name)? {
-        Some(road) => asked_on(rt, what, &road, text_name),
-        None => String::from_str(rt.alloc(), "no road"),
+    match road(rt, road_name) {
+        Some(road) => {
+            let text = file(rt, text_name);
+            asked_on(rt.alloc(), out, what, &road, text.as_slice());
+            drop(text);
+            drop(road);
+        }
+        None => out.put("no road"),
     }
 }
 
-fn asked_on(
-    rt: &HostRuntime,
-    what: &str,
-    road: &Road,
-    text_name: &str,
-) -> Result<String, AllocError> {
-    let text = file(rt, text_name)?;
+/// What is asked of this text, on a road.
+fn asked_on(alloc: Global, out: &mut Answer, what: &str, road: &Road, text: &[u8]) {
     match what {
-        "plan" => rewritten(rt.alloc(), road, text.as_slice()),
-        "behind" => behind(rt.alloc(), road, text.as_slice()),
-        _ => heights(rt.alloc(), road, text.as_slice()),
+        "plan" => rewritten(alloc, out, road, text),
+        "behind" => behind(alloc, out, road, text),
+        _ => heights(alloc, out, road, text),
     }
 }
 
-fn rewritten(alloc: Global, road: &Road, text: &[u8]) -> Result<String, AllocError> {
+/// The text that is written of the plan of a text.
+fn rewritten(alloc: Global, out: &mut Answer, road: &Road, text: &[u8]) {
     match read_whole_plan(alloc, road, text) {
-        Ok(plan) => written(alloc, road, &plan),
-        Err(error) => refused(alloc, &error),
+        Ok(plan) => {
+            written(alloc, out, road, &plan);
+            drop(plan);
+        }
+        Err(error) => refused(out, &error),
     }
 }
 
 /// The line at which a text isn't that of a plan.
-fn refused(alloc: Global, error: &TextErr) -> Result<String, AllocError> {
+fn refused(out: &mut Answer, error: &TextErr) {
     match error {
-        TextErr::Bad { line } => format!(in alloc; "line {line}"),
-        TextErr::NoMemory => Err(AllocError),
+        TextErr::Bad { line } => out.put(format_args!("line {line}")),
+        TextErr::NoMemory => out.fail(),
     }
 }
 
-fn written(alloc: Global, road: &Road, plan: &Plan) -> Result<String, AllocError>
+/// What is told of a plan, and its text behind `before:`.
+fn written(alloc: Global, out: &mut Answer, road: &Road, plan: &Plan)
     requires { Fits road.now plan.now }
 {
-    let mut out = b"before:".to_vec(alloc)?;
-    write_plan(alloc, road, plan, &mut out)?;
-    let text = shown::bytes(alloc, Some(out.as_slice()))?;
     let (den, pieces, stages, opens) = (
         plan.den,
         plan.pieces.len(),
         plan.cut.len(),
         plan.opens.as_slice(),
     );
-    format!(in alloc; "{den} {pieces} {stages} {opens:?} {text}")
+    out.put(format_args!("{den} {pieces} {stages} {opens:?} "));
+    match b"before:".to_vec(alloc) {
+        Ok(mut bytes) => {
+            out.note(write_plan(alloc, road, plan, &mut bytes));
+            shown::bytes(out, Some(bytes.as_slice()));
+        }
+        Err(_) => out.fail(),
+    }
 }
 
-fn behind(alloc: Global, road: &Road, text: &[u8]) -> Result<String, AllocError> {
+/// What stands before and behind the plan in a text.
+fn behind(alloc: Global, out: &mut Answer, road: &Road, text: &[u8]) {
     let mut lines = Lines::over(text);
     let first = lines.next().map(|line| line.bytes());
     match read_plan(alloc, road, &mut lines) {
-        Ok(plan) => behind_plan(alloc, first, plan.den, &mut lines),
-        Err(error) => refused(alloc, &error),
+        Ok(plan) => {
+            let den = plan.den;
+            drop(plan);
+            behind_plan(out, first, den, &mut lines);
+        }
+        Err(error) => refused(out, &error),
     }
 }
 
 /// The first line, the denominator of a plan, the number of lines that were given, and the next one.
-fn behind_plan(
-    alloc: Global,
-    first: Option<&[u8]>,
-    den: i128,
-    lines: &mut Lines,
-) -> Result<String, AllocError> {
+fn behind_plan(out: &mut Answer, first: Option<&[u8]>, den: i128, lines: &mut Lines) {
     let number = lines.number();
-    let first = shown::bytes(alloc, first)?;
-    let rest = shown::bytes(alloc, lines.next().map(|line| line.bytes()))?;
-    format!(in alloc; "{first} {den} {number} {rest}")
+    shown::bytes(out, first);
+    out.put(format_args!(" {den} {number} "));
+    shown::bytes(out, lines.next().map(|line| line.bytes()));
 }
 
-fn heights(alloc: Global, road: &Road, text: &[u8]) -> Result<String, AllocError> {
+/// What is measured on the plan of a text.
+fn heights(alloc: Global, out: &mut Answer, road: &Road, text: &[u8]) {
     match read_whole_plan(alloc, road, text) {
-        Ok(plan) => all_measures(alloc, road, &plan),
-        Err(_) => String::from_str(alloc, "no plan"),
+        Ok(plan) => {
+            all_measures(out, road, &plan);
+            drop(plan);
+        }
+        Err(_) => out.put("no plan"),
     }
 }
 
-fn all_measures(alloc: Global, road: &Road, plan: &Plan) -> Result<String, AllocError> {
-    let mut all = String::new(alloc);
+fn all_measures(out: &mut Answer, road: &Road, plan: &Plan) {
     for i in 0..road.sections.len() {
-        let part = measures_shown(alloc, measures_at(road, plan, i.saturating_add(1)))?;
-        all.push_str(part.as_str())?;
+        measures_shown(out, measures_at(road, plan, i.saturating_add(1)));
     }
-    Ok(all)
 }
 
-fn measures_shown(
-    alloc: Global,
-    measures: Option<(i128, i128, i128)>,
-) -> Result<String, AllocError> {
+fn measures_shown(out: &mut Answer, measures: Option<(i128, i128, i128)>) {
     match measures {
-        Some((height, offset, volume)) => format!(in alloc; "{height} {offset} {volume}, "),
-        None => String::from_str(alloc, "none, "),
+        Some((height, offset, volume)) => {
+            out.put(format_args!("{height} {offset} {volume}, "));
+        }
+        None => out.put("none, "),
     }
 }
 

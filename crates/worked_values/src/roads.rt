@@ -1,68 +1,79 @@
 // Road files, and roads that are checked as records.
 use crate::shown;
+use crate::writing::Answer;
 use outside::{DiskStore, Store};
 use road_file::read_road;
 use road_types::{Fault, Fixed, Hop, Listed, Pit, PitKind, Road, Text};
 use std::alloc::{AllocError, Global};
+use std::mem;
 
 /// The most bytes that are read of a file here.
 const MOST: usize = 10_000;
 
 /// The bytes of a file, none where it can't be read.
-pub(crate) fn file(rt: &HostRuntime, name: &str) -> Result<Vec<u8>, AllocError> {
+pub(crate) fn file(rt: &HostRuntime, name: &str) -> Vec<u8> {
     let mut store = DiskStore::new(rt);
     match store.read(rt.alloc(), name, MOST) {
-        Ok(bytes) => Ok(bytes),
-        Err(_) => Ok(Vec::new(rt.alloc())),
+        Ok(bytes) => bytes,
+        Err(_) => Vec::new(rt.alloc()),
     }
 }
 
 /// The road of a file, if it is one.
-pub(crate) fn road(rt: &HostRuntime, name: &str) -> Result<Option<Road>, AllocError> {
-    let bytes = file(rt, name)?;
-    Ok(read_road(rt.alloc(), bytes.as_slice(), None).ok())
+pub(crate) fn road(rt: &HostRuntime, name: &str) -> Option<Road> {
+    let bytes = file(rt, name);
+    match read_road(rt.alloc(), bytes.as_slice(), None) {
+        Ok(road) => Some(road),
+        Err(_) => None,
+    }
 }
 
 /// All that is read of a road file.
-pub(crate) fn read(rt: &HostRuntime, name: &str) -> Result<String, AllocError> {
-    let alloc = rt.alloc();
-    match road(rt, name)? {
-        Some(road) => format!(in alloc; "{road:?}"),
-        None => String::from_str(alloc, "no road"),
+pub(crate) fn read(rt: &HostRuntime, out: &mut Answer, name: &str) {
+    match road(rt, name) {
+        Some(road) => {
+            out.put(format_args!("{road:?}"));
+            drop(road);
+        }
+        None => out.put("no road"),
     }
 }
 
 /// The first fault of the road of one section in the file `one.toml`, once a part of its record is another: `kept`, `name`
 /// (of its pit, with a space), `fixed` (a point beyond the last knot), `hops` (one, where there is one section).
-pub(crate) fn check(rt: &HostRuntime, part: &str) -> Result<String, AllocError> {
-    match road(rt, "one.toml")? {
-        Some(road) => altered_fault(rt.alloc(), road, part),
-        None => String::from_str(rt.alloc(), "no road"),
+pub(crate) fn check(rt: &HostRuntime, out: &mut Answer, part: &str) {
+    match road(rt, "one.toml") {
+        Some(mut road) => {
+            out.note(alter(rt.alloc(), &mut road, part));
+            let fault = road.check();
+            drop(road);
+            fault_shown(out, fault);
+        }
+        None => out.put("no road"),
     }
 }
 
-fn altered_fault(alloc: Global, road: Road, part: &str) -> Result<String, AllocError> {
-    let mut road = road;
-    match alter(alloc, &mut road, part) {
-        Ok(()) => fault_shown(alloc, road.check()),
-        Err(error) => Err(error),
-    }
-}
-
+/// Puts another value in the place of the named part of a road.
 fn alter(alloc: Global, road: &mut Road, part: &str) -> Result<(), AllocError> {
     match part {
-        "name" => road.pits = pits(alloc)?,
-        "fixed" => road.fixed = Listed::new(Vec::from_array(alloc, [BEYOND])?),
-        "hops" => road.hops = Listed::new(Vec::from_array(alloc, [HOP])?),
+        "name" => drop(mem::replace(&mut road.pits, pits(alloc)?)),
+        "fixed" => {
+            let fixed = Listed::new(Vec::from_array(alloc, [BEYOND])?);
+            drop(mem::replace(&mut road.fixed, fixed));
+        }
+        "hops" => {
+            let hops = Listed::new(Vec::from_array(alloc, [HOP])?);
+            drop(mem::replace(&mut road.hops, hops));
+        }
         _ => {}
     }
     Ok(())
 }
 
-fn fault_shown(alloc: Global, fault: Option<Fault>) -> Result<String, AllocError> {
+fn fault_shown(out: &mut Answer, fault: Option<Fault>) {
     match fault {
-        Some(fault) => format!(in alloc; "{fault:?}"),
-        None => String::from_str(alloc, "none"),
+        Some(fault) => out.put(format_args!("{fault:?}")),
+        None => out.put("none"),
     }
 }
 
@@ -82,9 +93,10 @@ const HOP: Hop = Hop {
 
 /// A pit whose name has a space.
 fn pits(alloc: Global) -> Result<Listed<Pit>, AllocError> {
+    let name = Text::new(String::from_str(alloc, "the tip")?);
     let mut pits = Vec::new(alloc);
     pits.push(Pit {
-        name: Text::new(String::from_str(alloc, "the tip")?),
+        name,
         kind: PitKind::Waste,
         capacity: 50_000,
         cost: 1,
@@ -93,16 +105,26 @@ fn pits(alloc: Global) -> Result<Listed<Pit>, AllocError> {
 }
 
 /// The length and the items of a list of 3 and 4, the length of its vector, and a text.
-pub(crate) fn lists(alloc: Global) -> Result<String, AllocError> {
-    let list = Listed::new(Vec::from_array(alloc, [3u8, 4])?);
-    let first = list_shown(alloc, &list)?;
-    let count = list.into_vec().len();
-    let name = Text::new(String::from_str(alloc, "tip")?);
-    let name = shown::bytes(alloc, Some(name.as_str().as_bytes()))?;
-    format!(in alloc; "{first} {count} {name}")
+pub(crate) fn lists(alloc: Global, out: &mut Answer) {
+    match Vec::from_array(alloc, [3u8, 4]) {
+        Ok(items) => list_shown(out, Listed::new(items)),
+        Err(_) => out.fail(),
+    }
+    match String::from_str(alloc, "tip") {
+        Ok(name) => text_shown(out, Text::new(name)),
+        Err(_) => out.fail(),
+    }
 }
 
-fn list_shown(alloc: Global, list: &Listed<u8>) -> Result<String, AllocError> {
+/// The length and the items of a list, and the length of its vector.
+fn list_shown(out: &mut Answer, list: Listed<u8>) {
     let (count, items) = (list.len(), list.as_slice());
-    format!(in alloc; "{count} {items:?}")
+    out.put(format_args!("{count} {items:?}"));
+    let count = list.into_vec().len();
+    out.put(format_args!(" {count} "));
+}
+
+/// A text between quotes.
+fn text_shown(out: &mut Answer, text: Text) {
+    shown::bytes(out, Some(text.as_str().as_bytes()));
 }

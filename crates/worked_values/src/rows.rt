@@ -1,30 +1,50 @@
 // A store of three rows, of which one is written at a time.
 ghost use Rattle.std.specs.Prelude.{◌≡◌, ◌≢◌, ◌+◌, ◌<◌, ◌≤◌, [], ◌++◌, length, slice_set, IfOk};
 
+use crate::writing::Answer;
 use std::alloc::{AllocError, Global};
 use term_store::{RowMut, Rows, Side, Term};
 
 /// What the named change leaves of the rows `1:5 4:-2`, `4:7` and `2:1 3:1 9:1`.
-pub(crate) fn rows(alloc: Global, name: &str) -> Result<String, AllocError> {
-    let mut rows = three_rows(alloc)?;
+pub(crate) fn rows(alloc: Global, out: &mut Answer, name: &str) {
     match name {
-        "clear" => clear_third(&mut rows, 0, 1, 2),
-        "write" => write_second(&mut rows),
-        "merge" => merge(&mut rows),
+        "side" => out.put(side(Side::Equal == Side::AtLeast)),
+        _ => changed(alloc, out, name),
+    }
+}
+
+/// The rows after a change, and each as it is shown.
+fn changed(alloc: Global, out: &mut Answer, name: &str) {
+    match three_rows(alloc) {
+        Ok(mut rows) => {
+            change(&mut rows, name);
+            shown(out, &rows);
+        }
+        Err(_) => out.fail(),
+    }
+}
+
+/// Makes the named change, if there is one.
+fn change(rows: &mut Rows<i64>, name: &str)
+    requires rows { length rows.old.rows ≡ 3 }
+    requires width { rows.old.width ≡ 3 }
+{
+    match name {
+        "clear" => clear_third(rows, 0, 1, 2),
+        "write" => write_second(rows),
+        "merge" => merge(rows),
         "swap" => rows.swap_rows(0, 2),
         "clear_swap" => {
-            clear_third(&mut rows, 0, 1, 2);
+            clear_third(rows, 0, 1, 2);
             rows.swap_rows(0, 2);
         }
         "write_stay" => {
-            write_second(&mut rows);
-            stay(&mut rows);
+            write_second(rows);
+            stay(rows);
         }
-        "stay" => stay(&mut rows),
-        "side" => return String::from_str(alloc, side(Side::Equal == Side::AtLeast)),
+        "stay" => stay(rows),
         _ => {}
     }
-    shown(alloc, &rows)
 }
 
 fn side(same: bool) -> &'static str {
@@ -125,22 +145,18 @@ fn push_all(terms: &[Term<i64>], view: RowMut<'_, i64>)
 }
 
 /// How many rows there are, and their terms.
-fn shown(alloc: Global, rows: &Rows<i64>) -> Result<String, AllocError> {
+fn shown(out: &mut Answer, rows: &Rows<i64>) {
     let count = rows.count();
-    let mut all = format!(in alloc; "{count} rows")?;
+    out.put(format_args!("{count} rows"));
     for i in 0..count {
-        let row = row_shown(alloc, rows.row(i))?;
-        all.push_str(row.as_str())?;
+        row_shown(out, rows.row(i));
     }
-    Ok(all)
 }
 
-fn row_shown(alloc: Global, row: &[Term<i64>]) -> Result<String, AllocError> {
-    let mut all = String::from_str(alloc, " |")?;
+fn row_shown(out: &mut Answer, row: &[Term<i64>]) {
+    out.put(" |");
     for term in row {
         let (column, value) = (term.column, term.value);
-        let part = format!(in alloc; " {column}:{value}")?;
-        all.push_str(part.as_str())?;
+        out.put(format_args!(" {column}:{value}"));
     }
-    Ok(all)
 }

@@ -1,12 +1,12 @@
 // Another type of whole numbers, of a range that is soon left.
-ghost use Rattle.std.specs.Prelude.{◌≡◌, ◌≤◌, unsigned_abs, refl};
+ghost use Rattle.std.specs.Prelude.{◌≡◌, ◌≤◌, ◌*ℤ◌, unsigned_abs, refl};
 ghost use Rattle.std.proofs.Common.{arith, rules};
 
 use numbers::{W64, Whole};
 use std::cmp::Ordering;
 
 /// The whole numbers of magnitude at most 10.
-#[derive(Clone, Copy, Debug)]
+#[derive(Clone, Copy)]
 pub(crate) struct Small {
     value: i8,
     ghost in_range: { unsigned_abs value ≤ 10 },
@@ -46,7 +46,7 @@ impl Whole for Small {
     }
 
     fn times(self, other: Small) -> Option<Small> {
-        Small::of_wide(self.wide() * other.wide())
+        Small::of_wide(product(self, other))
     }
 
     fn plus(self, other: Small) -> Option<Small> {
@@ -58,8 +58,7 @@ impl Whole for Small {
     }
 
     fn product_difference(self, factor: Small, other: Small, by: Small) -> Option<Small> {
-        let difference = word(self).product_difference(word(factor), word(other), word(by))?;
-        Small::of_wide(difference.wide())
+        Small::of_wide(product(self, factor) - product(other, by))
     }
 
     fn negated(self) -> Small {
@@ -94,6 +93,14 @@ impl Whole for Small {
     ghost at_least_one = { Prim.search rules };
 
     ghost below_wide = { Prim.search rules };
+}
+
+/// The product, in 128 bits.
+fn product(a: Small, b: Small) -> i128
+    ensures value { result ≡ a.value *ℤ b.value }
+    ensures width { unsigned_abs result ≤ 100 }
+{
+    (a.value as i128) * (b.value as i128)
 }
 
 /// The same number in 64 bits.

@@ -1,21 +1,23 @@
 // A store in memory.
 use crate::shown;
+use crate::writing::Answer;
 use outside::{MemStore, Store, StoreErr};
 use std::alloc::{AllocError, Global};
 
 /// Makes a store whose calls with the numbers of the first word fail, `-` for none, and does in turn what the other words ask:
-/// `file:NAME:BYTES`, `room:NAME:BYTES`, `write:NAME:BYTES`, `read:NAME:MOST`. Prints what each call gives, and the faults.
-pub(crate) fn store(alloc: Global, rest: &str) -> Result<String, AllocError> {
+/// `file:NAME:BYTES`, `room:NAME:BYTES`, `write:NAME:BYTES`, `read:NAME:MOST`. Appends what each call gives, and the faults.
+pub(crate) fn store(alloc: Global, out: &mut Answer, rest: &str) {
     let (fails, calls) = rest.split_once(' ').unwrap_or((rest, ""));
-    let fails = numbers(alloc, fails)?;
-    let mut store = MemStore::new(alloc, fails.as_slice())?;
-    let mut all = String::new(alloc);
-    for call in calls.split_whitespace() {
-        let part = ask(alloc, &mut store, call)?;
-        all.push_str(part.as_str())?;
+    match made(alloc, fails) {
+        Ok(mut store) => ask_all(alloc, out, &mut store, calls),
+        Err(_) => out.fail(),
     }
-    let (reads, writes) = (store.read_faults(), store.write_faults());
-    format!(in alloc; "{all}{reads} {writes}")
+}
+
+/// A store whose calls with these numbers fail.
+fn made(alloc: Global, fails: &str) -> Result<MemStore, AllocError> {
+    let fails = numbers(alloc, fails)?;
+    MemStore::new(alloc, fails.as_slice())
 }
 
 /// The numbers between commas.
@@ -29,38 +31,41 @@ pub(crate) fn numbers(alloc: Global, text: &str) -> Result<Vec<u64>, AllocError>
     Ok(numbers)
 }
 
-fn ask(alloc: Global, store: &mut MemStore, call: &str) -> Result<String, AllocError> {
+/// Does what each word asks, and appends the faults.
+fn ask_all(alloc: Global, out: &mut Answer, store: &mut MemStore, calls: &str) {
+    for call in calls.split_whitespace() {
+        ask(alloc, out, store, call);
+    }
+    let (reads, writes) = (store.read_faults(), store.write_faults());
+    out.put(format_args!("{reads} {writes}"));
+}
+
+/// Does what a word asks, and appends what that gives.
+fn ask(alloc: Global, out: &mut Answer, store: &mut MemStore, call: &str) {
     let (call, rest) = call.split_once(':').unwrap_or((call, ""));
     let (name, what) = rest.split_once(':').unwrap_or((rest, ""));
     match call {
-        "file" => {
-            store.file(name, what.as_bytes())?;
-            Ok(String::new(alloc))
-        }
-        "room" => {
-            store.room(name, what.parse::<usize>().unwrap_or(0))?;
-            Ok(String::new(alloc))
-        }
+        "file" => out.note(store.file(name, what.as_bytes())),
+        "room" => out.note(store.room(name, what.parse::<usize>().unwrap_or(0))),
         "write" => {
             let end = ended(store.write(name, what.as_bytes()));
-            format!(in alloc; "{end}, ")
+            out.put(format_args!("{end}, "));
         }
         _ => {
-            let read = store.read(alloc, name, what.parse::<usize>().unwrap_or(0));
-            let read = read_shown(alloc, read)?;
-            format!(in alloc; "{read}, ")
+            read_shown(
+                out,
+                store.read(alloc, name, what.parse::<usize>().unwrap_or(0)),
+            );
+            out.put(", ")
         }
     }
 }
 
-/// The bytes that were read, or why not.
-pub(crate) fn read_shown(
-    alloc: Global,
-    read: Result<Vec<u8>, StoreErr>,
-) -> Result<String, AllocError> {
+/// Appends the bytes that were read, or why not.
+pub(crate) fn read_shown(out: &mut Answer, read: Result<Vec<u8>, StoreErr>) {
     match read {
-        Ok(bytes) => shown::bytes(alloc, Some(bytes.as_slice())),
-        Err(error) => String::from_str(alloc, error_shown(&error)),
+        Ok(bytes) => shown::bytes(out, Some(bytes.as_slice())),
+        Err(error) => out.put(error_shown(&error)),
     }
 }
 

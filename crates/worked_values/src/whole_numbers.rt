@@ -3,43 +3,43 @@ ghost use Rattle.std.specs.Prelude.{◌≡◌, ◌≢◌, pos, IfSome};
 
 use crate::shown;
 use crate::small::Small;
+use crate::writing::Answer;
 use numbers::{Frac, W64, W128, Whole, common_den};
 use std::alloc::{AllocError, Global};
 use std::cmp::Ordering;
 
 /// The calls on numbers of the type that is named.
-pub(crate) fn number(alloc: Global, name: &str, rest: &str) -> Result<String, AllocError> {
-    let words = shown::words(alloc, rest)?;
+pub(crate) fn number(out: &mut Answer, name: &str, words: &str) {
     match name {
-        "small" => calls::<Small>(alloc, words.as_slice()),
-        "w64" => calls::<W64>(alloc, words.as_slice()),
-        _ => calls::<W128>(alloc, words.as_slice()),
+        "small" => calls::<Small>(out, words),
+        "w64" => calls::<W64>(out, words),
+        _ => calls::<W128>(out, words),
     }
 }
 
 /// The call that the first word names, on the numbers that follow.
-fn calls<W: Whole>(alloc: Global, words: &[&str]) -> Result<String, AllocError> {
+fn calls<W: Whole>(out: &mut Answer, words: &str) {
     match shown::word(words, 0) {
-        "of" => option(alloc, of::<W>(shown::number(words, 1))),
-        "of_wide" => option(alloc, W::of_wide(shown::number(words, 1))),
-        "units" => units::<W>(alloc),
-        "turned" => turned::<W>(alloc, words),
-        "two" => two::<W>(alloc, words),
-        "back" => option(alloc, back::<W>(words)),
-        "apart" => option(alloc, apart::<W>(words)),
-        _ => String::from_str(alloc, "no such call"),
+        "of" => option(out, of::<W>(shown::number(words, 1))),
+        "of_wide" => option(out, W::of_wide(shown::number(words, 1))),
+        "units" => units::<W>(out),
+        "turned" => turned::<W>(out, words),
+        "two" => two::<W>(out, words),
+        "back" => option(out, back::<W>(words)),
+        "apart" => option(out, apart::<W>(words)),
+        _ => out.put("no such call"),
     }
 }
 
-fn option<W: Whole>(alloc: Global, number: Option<W>) -> Result<String, AllocError> {
+fn option<W: Whole>(out: &mut Answer, number: Option<W>) {
     match number {
-        Some(number) => shown::option(alloc, Some(number.wide())),
-        None => String::from_str(alloc, "none"),
+        Some(number) => shown::option(out, Some(number.wide())),
+        None => out.put("none"),
     }
 }
 
 /// The number at a place of the words.
-fn at<W: Whole>(words: &[&str], i: usize) -> Option<W> {
+fn at<W: Whole>(words: &str, i: usize) -> Option<W> {
     W::of_wide(shown::number(words, i))
 }
 
@@ -50,32 +50,34 @@ fn of<W: Whole>(number: i128) -> Option<W> {
 }
 
 /// The numbers 0 and 1.
-fn units<W: Whole>(alloc: Global) -> Result<String, AllocError> {
+fn units<W: Whole>(out: &mut Answer) {
     let (zero, one) = (W::zero().wide(), W::one().wide());
-    format!(in alloc; "{zero} {one}")
+    out.put(format_args!("{zero} {one}"));
 }
 
 /// The number of the other sign, and the sign.
-fn turned<W: Whole>(alloc: Global, words: &[&str]) -> Result<String, AllocError> {
+fn turned<W: Whole>(out: &mut Answer, words: &str) {
     let Some(number) = at::<W>(words, 1) else {
-        return String::from_str(alloc, "none");
+        return out.put("none");
     };
     let negated = number.negated().wide();
     let sign = order(number.sign());
-    format!(in alloc; "{negated} {sign}")
+    out.put(format_args!("{negated} {sign}"));
 }
 
 /// The sum, the difference, the product, the greatest common divisor and the order.
-fn two<W: Whole>(alloc: Global, words: &[&str]) -> Result<String, AllocError> {
+fn two<W: Whole>(out: &mut Answer, words: &str) {
     let (Some(a), Some(b)) = (at::<W>(words, 1), at::<W>(words, 2)) else {
-        return String::from_str(alloc, "none");
+        return out.put("none");
     };
-    let sum = option(alloc, a.plus(b))?;
-    let difference = option(alloc, a.minus(b))?;
-    let product = option(alloc, a.times(b))?;
+    option(out, a.plus(b));
+    out.put(" ");
+    option(out, a.minus(b));
+    out.put(" ");
+    option(out, a.times(b));
     let divisor = a.gcd(b).wide();
     let order = order(a.order(b));
-    format!(in alloc; "{sum} {difference} {product} {divisor} {order}")
+    out.put(format_args!(" {divisor} {order}"));
 }
 
 fn order(order: Ordering) -> &'static str {
@@ -87,7 +89,7 @@ fn order(order: Ordering) -> &'static str {
 }
 
 /// What the product of two numbers divided by the second gives.
-fn back<W: Whole>(words: &[&str]) -> Option<W> {
+fn back<W: Whole>(words: &str) -> Option<W> {
     let factor = at::<W>(words, 1)?;
     let other = at::<W>(words, 2)?;
     if other.wide() == 0 {
@@ -105,7 +107,7 @@ fn divided_back<W: Whole>(factor: W, other: W) -> Option<W>
 }
 
 /// The difference of the products of the first and the last two of four numbers.
-fn apart<W: Whole>(words: &[&str]) -> Option<W> {
+fn apart<W: Whole>(words: &str) -> Option<W> {
     let a = at::<W>(words, 1)?;
     let b = at::<W>(words, 2)?;
     let c = at::<W>(words, 3)?;
@@ -114,38 +116,44 @@ fn apart<W: Whole>(words: &[&str]) -> Option<W> {
 }
 
 /// The text of a numerator over a denominator.
-pub(crate) fn fraction(alloc: Global, rest: &str) -> Result<String, AllocError> {
-    let words = shown::words(alloc, rest)?;
-    let words = words.as_slice();
+pub(crate) fn fraction(alloc: Global, out: &mut Answer, words: &str) {
     match Frac::new(shown::number(words, 0), shown::number(words, 1)) {
-        Some(fraction) => fraction.text(alloc),
-        None => String::from_str(alloc, "none"),
+        Some(fraction) => match fraction.text(alloc) {
+            Ok(text) => out.put(text.as_str()),
+            Err(_) => out.fail(),
+        },
+        None => out.put("none"),
     }
 }
 
 /// Whether two fractions are one.
-pub(crate) fn same(alloc: Global, rest: &str) -> Result<String, AllocError> {
-    let words = shown::words(alloc, rest)?;
-    let words = words.as_slice();
+pub(crate) fn same(out: &mut Answer, words: &str) {
     let left = Frac::new(shown::number(words, 0), shown::number(words, 1));
     let right = Frac::new(shown::number(words, 2), shown::number(words, 3));
-    String::from_str(alloc, if left == right { "yes" } else { "no" })
+    out.put(if left == right { "yes" } else { "no" })
 }
 
 /// The least common denominator of fractions such as `5/6`.
-pub(crate) fn common(alloc: Global, rest: &str) -> Result<String, AllocError> {
+pub(crate) fn common(alloc: Global, out: &mut Answer, rest: &str) {
+    match fractions(alloc, rest) {
+        Ok(fractions) => shown::option(out, common_den(fractions.as_slice())),
+        Err(_) => out.fail(),
+    }
+}
+
+/// The words that are fractions such as `5/6`.
+fn fractions(alloc: Global, rest: &str) -> Result<Vec<Frac>, AllocError> {
     let mut fractions = Vec::new(alloc);
     for word in rest.split_whitespace() {
-        let Some(fraction) = fraction_of(word) else {
-            return format!(in alloc; "no fraction: {word}");
-        };
-        fractions.push(fraction)?;
+        if let Some(fraction) = fraction_of(word) {
+            fractions.push(fraction)?;
+        }
     }
-    shown::option(alloc, common_den(fractions.as_slice()))
+    Ok(fractions)
 }
 
 /// The fraction that a word such as `5/6` is.
 fn fraction_of(word: &str) -> Option<Frac> {
     let (num, den) = word.split_once('/')?;
-    Frac::new(num.parse::<i128>().ok()?, den.parse::<i128>().ok()?)
+    Frac::new(shown::parsed(num), shown::parsed(den))
 }

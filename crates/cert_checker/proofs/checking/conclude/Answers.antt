@@ -8,4 +8,4 @@ first_refusal-refusal-requires-clause-planned c =
 
 pub returns : goal.returns
 returns c =
-    concluded c.args.road.now (IsAccepted-from_fault c.args.road.now c.requires.accepted) c.args.bytes.now c.args.findings c.first_refusal-refusal.result c.answer.result c.requires.short c.requires.found c.first_refusal-refusal.ensures c.answer.ensures
+    concluded c.args.road.now (IsAccepted-from_fault c.args.road.now c.requires.accepted) c.args.bytes.now c.args.findings c.first_refusal-refusal.result c.answer-checked.result c.requires.short c.requires.found c.first_refusal-refusal.ensures c.answer-checked.ensures
