@@ -1,5 +1,5 @@
 // The plan that a point shows.
-ghost use Rattle.std.specs.Prelude.{◌≡◌, ◌≤◌, if◌then◌else◌, IfOk, OnOk, length, pos};
+ghost use Rattle.std.specs.Prelude.{◌≡◌, ◌≤◌, if◌then◌else◌, IfOk, length, pos};
 ghost use Rattle.std.specs.Ordering.{int_eq};
 ghost use Rattle.algebra.specs.Lists.{list_to};
 ghost use Rattle.road_types.specs.WellFormed.{IsWellFormed};
@@ -15,7 +15,6 @@ use crate::shown::shown;
 use plan_rules::{Piece, Plan};
 use road_types::{Column, Listed, Road};
 use std::alloc::{AllocError, Global};
-use std::mem;
 
 /// The plan over a denominator whose numbers the point shows.
 pub fn shown_plan(alloc: Global, road: &Road, den: i128, point: &[i128]) -> Result<Plan, AllocError>
@@ -23,56 +22,26 @@ pub fn shown_plan(alloc: Global, road: &Road, den: i128, point: &[i128]) -> Resu
     requires columns { length point.now ≡ length (columns_of road.now) }
     ensures { IfOk result (λ plan. plan ≡ plan_at road.now den (shown road.now point.now)) }
 {
-    let mut plan = empty_plan(alloc, den);
-    match show(alloc, road, point, &mut plan) {
-        Ok(()) => Ok(plan),
-        Err(error) => {
-            drop(plan);
-            Err(error)
-        }
-    }
-}
-
-/// The plan over a denominator that has no pieces, volumes or openings yet.
-fn empty_plan(alloc: Global, den: i128) -> Plan
-    ensures { result.den ≡ den }
-{
-    Plan {
-        den,
-        pieces: Listed::new(Vec::new(alloc)),
-        cut: Listed::new(Vec::new(alloc)),
-        fill: Listed::new(Vec::new(alloc)),
-        right: Listed::new(Vec::new(alloc)),
-        left: Listed::new(Vec::new(alloc)),
-        roads: Listed::new(Vec::new(alloc)),
-        opens: Listed::new(Vec::new(alloc)),
-    }
-}
-
-/// Puts the numbers that the point shows into a plan.
-fn show(alloc: Global, road: &Road, point: &[i128], plan: &mut Plan) -> Result<(), AllocError>
-    requires well_formed { IsWellFormed road.now }
-    requires columns { length point.now ≡ length (columns_of road.now) }
-    ensures { OnOk result (plan.new ≡ plan_at road.now plan.old.den (shown road.now point.now)) }
-{
     let sections = road.sections.len();
     let hops = road.hops.len();
     let accesses = road.roads.len();
     let pieces = shown_pieces(alloc, road, point)?;
-    drop(mem::replace(&mut plan.pieces, pieces));
     let cut = shown_table(alloc, road, point, Amount::Cut, sections)?;
-    drop(mem::replace(&mut plan.cut, cut));
     let fill = shown_table(alloc, road, point, Amount::Fill, sections)?;
-    drop(mem::replace(&mut plan.fill, fill));
     let right = shown_table(alloc, road, point, Amount::Right, hops)?;
-    drop(mem::replace(&mut plan.right, right));
     let left = shown_table(alloc, road, point, Amount::Left, hops)?;
-    drop(mem::replace(&mut plan.left, left));
     let roads = shown_table(alloc, road, point, Amount::Access, accesses)?;
-    drop(mem::replace(&mut plan.roads, roads));
     let opens = shown_openings(alloc, road, point)?;
-    drop(mem::replace(&mut plan.opens, opens));
-    Ok(())
+    Ok(Plan {
+        den,
+        pieces,
+        cut,
+        fill,
+        right,
+        left,
+        roads,
+        opens,
+    })
 }
 
 fn shown_pieces(alloc: Global, road: &Road, point: &[i128]) -> Result<Listed<Piece>, AllocError>
