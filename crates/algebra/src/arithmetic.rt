@@ -1,7 +1,7 @@
 // Arithmetic on numbers whose results are known to fit.
 ghost use Rattle.std.specs.Prelude.{◌↔◌, IsTrue, ◌≡◌, pos, neg_ℤ, ◌+ℤ◌, ◌-ℤ◌, ◌*ℤ◌, ◌≤ℤ◌, FitsSigned};
 ghost use Rattle.std.specs.Int.{w128};
-ghost use Rattle.algebra.specs.Scale.{IsScale, greatest_scale};
+ghost use Rattle.algebra.specs.Scale.{IsScale};
 
 /// The greatest denominator of a plan or a bound, and the greatest scale and magnitude of a multiplier.
 pub const GREATEST_SCALE: i128 = 1_099_511_627_776;

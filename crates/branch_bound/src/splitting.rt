@@ -9,7 +9,7 @@ ghost use Rattle.road_types.specs.Columns.{columns_of};
 ghost use Rattle.road_types.specs.declared.column.Column.TheVariants.{Offset, Cut, Fill};
 ghost use Rattle.volume_lines.specs.InnerBreakpoints.{HasBreakpointInside};
 ghost use Rattle.volume_lines.specs.SlabTables.{HasSlabTables};
-ghost use Rattle.road_points.specs.Shown.{shown, IsWholeAt, HasWholeRemovals, moved_volume, IsExactAt, HasExactVolumes};
+ghost use Rattle.road_points.specs.Shown.{shown, IsWholeAt, HasWholeRemovals, moved_volume, HasExactVolumes};
 ghost use Rattle.milp_builder.specs.FoundPlans.{IsPartRemoval, IsOtherVolume};
 ghost use Rattle.milp_builder.specs.inside.SmallPoints.{IsOpenedWhole};
 ghost use Rattle.branch_bound.specs.inside.Comparing.{IsComparable, HasComparableVolumes};

@@ -1,6 +1,6 @@
 // Volumes of slab tables over denominators past those of plans, wide enough to be compared in 128 bits.
-ghost use Rattle.std.specs.Prelude.{◌≡◌, pos, neg_ℤ, ◌^◌, ◌-ℤ◌, ◌*ℤ◌, ◌≤ℤ◌, ◌≤◌, unsigned_abs, FitsSigned};
-ghost use Rattle.std.specs.Int.{w128, int_min, int_max};
+ghost use Rattle.std.specs.Prelude.{◌≡◌, pos, neg_ℤ, ◌^◌, ◌-ℤ◌, ◌*ℤ◌, ◌≤ℤ◌, ◌≤◌, unsigned_abs};
+ghost use Rattle.std.specs.Int.{int_min, int_max};
 ghost use Rattle.road_types.specs.WellFormed.{IsSlabTable, IsSolidSlab};
 ghost use Rattle.road_types.specs.Volumes.{volume_to, net_volume};
 ghost use Rattle.branch_bound.specs.inside.Comparing.{IsComparable};

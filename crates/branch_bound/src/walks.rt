@@ -1,5 +1,5 @@
 // Walks over the tree while it grows.
-ghost use Rattle.std.specs.Prelude.{◌≡◌, ◌+◌, ◌<◌, ◌≤◌, ◌^◌, ◌++◌, Some, OnOk};
+ghost use Rattle.std.specs.Prelude.{◌≡◌, ◌+◌, ◌<◌, ◌^◌, ◌++◌, Some, OnOk};
 ghost use Rattle.best_first.specs.inside.Covers.{open_keys};
 ghost use Rattle.branch_bound.specs.inside.Grown.{grown_of, keys_of, waiting_count, waiting_at, parted_at, proved_key, grown_fork, fractional_note, nodes_note};
 

@@ -1,5 +1,5 @@
 // The leaves of a certificate's tree that were left open.
-ghost use Rattle.std.specs.Prelude.{◌≡◌, ◌≢◌, ℕ, List, ◌++◌, ◌+◌, ◌<◌, ◌≤◌, ◌^◌, IfOk, true, length};
+ghost use Rattle.std.specs.Prelude.{◌≡◌, ℕ, List, ◌++◌, ◌+◌, ◌<◌, ◌≤◌, ◌^◌, IfOk, true, length};
 ghost use Rattle.text_parts.specs.Lines.{text_of};
 ghost use Rattle.cert_tree.specs.Trees.{BoxTree};
 ghost use Rattle.cert_text.specs.NodeText.{IsSpelledTree, most_levels, tree_text};

@@ -1,13 +1,13 @@
 // What stands before and behind the tree of a certificate.
-ghost use Rattle.std.specs.Prelude.{◌≡◌, ℕ, List, drop, codes, IfOk};
+ghost use Rattle.std.specs.Prelude.{◌≡◌, drop, codes};
 ghost use Rattle.std.specs.Option.{is_some};
-ghost use Rattle.text_parts.specs.Lines.{lines_of, IsOfSource};
+ghost use Rattle.text_parts.specs.Lines.{lines_of};
 ghost use Rattle.plan_text.specs.inside.LineReading.{Gives};
 ghost use Rattle.plan_text.specs.inside.PlanReading.{start_of};
 ghost use Rattle.cert_text.specs.inside.NodeReading.{line_due};
 ghost use Rattle.cert_text.specs.WordForms.{line_value, is_next};
 ghost use Rattle.cert_text.specs.inside.CertReading.{priced_due, planned_due, heading_due};
-ghost use Rattle.cert_text.specs.StatedForms.{keyword_form, cost_form, bound_form, bound_of, fraction_behind, same_word};
+ghost use Rattle.cert_text.specs.StatedForms.{keyword_form, cost_form, bound_form, bound_of, fraction_behind};
 
 use crate::fractions::fraction;
 use crate::words::{one_word, two_words};

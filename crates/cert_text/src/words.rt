@@ -1,5 +1,5 @@
 // So many words, and the values that a word spells.
-ghost use Rattle.std.specs.Prelude.{◌≡◌, ◌≤◌, ◌≤ℤ◌, IfSome, pos};
+ghost use Rattle.std.specs.Prelude.{◌≡◌, ◌≤◌, ◌≤ℤ◌, IfSome};
 ghost use Rattle.std.specs.Option.{option_map};
 ghost use Rattle.cert_text.specs.WordForms.{one_word, two_words, three_words, whole_within, natural_within, value_form, cause_form, scale_form};
 

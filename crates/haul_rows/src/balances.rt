@@ -1,5 +1,5 @@
 // The rows that balance each section in each stage.
-ghost use Rattle.std.specs.Prelude.{◌≡◌, ◌<◌, ◌≤◌, ◌+◌, ◌*◌, ◌-◌, [], ◌∷◌, ◌++◌, length, pos, ◌≤ℤ◌, neg_ℤ};
+ghost use Rattle.std.specs.Prelude.{◌≡◌, ◌<◌, ◌≤◌, ◌+◌, ◌*◌, ◌-◌, [], ◌∷◌, ◌++◌, length};
 ghost use Rattle.algebra.specs.Lists.{list_to};
 ghost use Rattle.algebra.specs.Numbered.{IsNumber};
 ghost use Rattle.form_rows.specs.FormRows.{form_terms, forms_terms, Grew};

@@ -1,5 +1,5 @@
 // The rows of blocks: transit, stop and order.
-ghost use Rattle.std.specs.Prelude.{◌≡◌, ◌<◌, ◌≤◌, ◌+◌, ◌*◌, ◌-◌, [], ◌∷◌, ◌++◌, length, pos, neg_ℤ, ◌≤ℤ◌};
+ghost use Rattle.std.specs.Prelude.{◌≡◌, ◌<◌, ◌≤◌, ◌+◌, ◌*◌, ◌-◌, [], ◌∷◌, length, pos, neg_ℤ, ◌≤ℤ◌};
 ghost use Rattle.algebra.specs.Lists.{list_to, flat_to};
 ghost use Rattle.algebra.specs.Numbered.{IsNumber};
 ghost use Rattle.form_rows.specs.FormRows.{form_terms, forms_terms, Grew};

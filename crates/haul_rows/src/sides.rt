@@ -1,5 +1,5 @@
 // What the rows for what is moved ask of the sums of their terms.
-ghost use Rattle.std.specs.Prelude.{None, ◌≡◌, ◌+◌, ◌*◌, ◌-◌, ◌<◌, ◌≤◌, ◌++◌, pos, neg_ℤ, ◌≤ℤ◌};
+ghost use Rattle.std.specs.Prelude.{None, ◌≡◌, ◌+◌, ◌*◌, ◌-◌, ◌<◌, ◌≤◌, ◌++◌, pos, ◌≤ℤ◌};
 ghost use Rattle.algebra.specs.Numbered.{numbered, IsNumber};
 ghost use Rattle.form_rows.specs.FormRows.{asked};
 ghost use Rattle.road_types.specs.Faults.{road_fault};

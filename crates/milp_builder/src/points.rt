@@ -1,12 +1,12 @@
 // The point of a plan: its numbers in the order of the road's columns.
-ghost use Rattle.std.specs.Prelude.{◌≡◌, ◌++◌, ◌+◌, ◌-◌, ◌≤◌, [], ◌∷◌, List, IfOk, OnOk, None, length, map, nat_le, pos, if◌then◌else◌};
+ghost use Rattle.std.specs.Prelude.{◌≡◌, ◌++◌, ◌+◌, ◌-◌, [], ◌∷◌, IfOk, OnOk, None, length, map, nat_le, pos, if◌then◌else◌};
 ghost use Rattle.algebra.specs.Lists.{list_to, flat_to};
 ghost use Rattle.road_types.specs.Numbered.{numbered, IsNumber};
 ghost use Rattle.road_types.specs.Faults.{road_fault};
 ghost use Rattle.road_types.specs.WellFormed.{IsWellFormed};
 ghost use Rattle.road_types.specs.Road.{section_count, segment_count, block_count};
 ghost use Rattle.road_types.specs.Columns.{segment_columns, stage_columns, block_columns};
-ghost use Rattle.road_types.specs.declared.column.Column.TheVariants.{A, B, C, Offset, Opened};
+ghost use Rattle.road_types.specs.declared.column.Column.TheVariants.{Offset};
 ghost use Rattle.plan_rules.specs.Plans.{piece_of, opening, IsPlanOf};
 ghost use Rattle.plan_rules.specs.Fits.{Fits};
 ghost use Rattle.plan_rules.specs.Rules.{IsAdmissible, IsLimited, offset_of};

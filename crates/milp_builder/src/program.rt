@@ -1,5 +1,5 @@
 // The mixed-integer program of a box.
-ghost use Rattle.std.specs.Prelude.{◌≡◌, IfOk, map, None, length, ◌≤◌};
+ghost use Rattle.std.specs.Prelude.{◌≡◌, IfOk, map, None};
 ghost use Rattle.algebra.specs.Numbered.{numbered, IsNumber};
 ghost use Rattle.form_rows.specs.FormRows.{asked, forms_terms};
 ghost use Rattle.road_types.specs.Accepted.{IsAccepted};

@@ -1,5 +1,5 @@
 // The box of all plans.
-ghost use Rattle.std.specs.Prelude.{◌≡◌, ◌+◌, ◌≤◌, IfOk, replicate, map, length, ℤ, pos, None};
+ghost use Rattle.std.specs.Prelude.{◌≡◌, ◌+◌, ◌≤◌, IfOk, map, None};
 ghost use Rattle.std.specs.List.{All};
 ghost use Rattle.road_types.specs.Faults.{road_fault};
 ghost use Rattle.road_types.specs.WellFormed.{IsWellFormed};

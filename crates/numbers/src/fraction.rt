@@ -1,4 +1,4 @@
-ghost use Rattle.std.specs.Prelude.{◌≡◌, ◌↔◌, ℕ, ◌≢◌, ◌<◌, ◌^◌, ℤ, pos, ◌≤ℤ◌, ◌<ℤ◌, IsTrue, IsSome, IsNone, IfSome, IfOk, string_bytes, unsigned_abs};
+ghost use Rattle.std.specs.Prelude.{◌≡◌, ◌↔◌, ◌≢◌, ◌<◌, ◌^◌, ℤ, pos, ◌≤ℤ◌, ◌<ℤ◌, IsTrue, IsSome, IsNone, IfSome, IfOk, string_bytes, unsigned_abs};
 ghost use Rattle.algebra.specs.Scale.{greatest_scale};
 ghost use Rattle.numbers.specs.Fractions.{IsLeastCommonDenominator};
 ghost use Rattle.numbers.specs.inside.LowestTerms.{AreLowest, HasSign};

@@ -1,4 +1,4 @@
-ghost use Rattle.std.specs.Prelude.{◌≡◌, ◌↔◌, ℤ, ◌*ℤ◌, ◌^◌, ◌-◌, ◌≤◌, ◌<◌, IsTrue, unsigned_abs, refl};
+ghost use Rattle.std.specs.Prelude.{◌^◌, ◌-◌, ◌<◌, unsigned_abs, refl};
 ghost use Rattle.std.proofs.Common.{arith, rules};
 
 use crate::divisors::gcd_wide;

@@ -1,6 +1,5 @@
 // What a plan costs.
-ghost use Rattle.std.specs.Prelude.{◌≡◌, ◌^◌, ◌≤◌, ◌*◌, ℤ, ◌+ℤ◌, ◌*ℤ◌, unsigned_abs, None};
-ghost use Rattle.algebra.specs.Sums.{sum_to};
+ghost use Rattle.std.specs.Prelude.{◌≡◌, ◌^◌, ◌≤◌, ◌*◌, unsigned_abs, None};
 ghost use Rattle.road_types.specs.Numbered.{IsNumber};
 ghost use Rattle.road_types.specs.Faults.{road_fault};
 ghost use Rattle.road_types.specs.Road.{block_count};

@@ -1,5 +1,5 @@
 // What stands in a plan by its number, which begins at 1.
-ghost use Rattle.std.specs.Prelude.{◌≡◌, ℕ, ℤ, pos};
+ghost use Rattle.std.specs.Prelude.{◌≡◌, pos};
 ghost use Rattle.road_types.specs.Numbered.{numbered};
 ghost use Rattle.plan_rules.specs.Plans.{piece_of, amount, opening};
 

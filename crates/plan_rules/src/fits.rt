@@ -1,8 +1,8 @@
 // Whether a plan has the lists of a road and numbers of a moderate size.
-ghost use Rattle.std.specs.Prelude.{◌↔◌, IsTrue, ◌≡◌, length, ℕ, ℤ, pos, ◌≤ℤ◌, ◌^◌, ◌-◌};
+ghost use Rattle.std.specs.Prelude.{◌↔◌, IsTrue, ◌≡◌, length, ◌^◌, ◌-◌};
 ghost use Rattle.std.specs.List.{All};
 ghost use Rattle.algebra.specs.Scale.{IsScale};
-ghost use Rattle.road_types.specs.Road.{section_count, segment_count, access_count, block_count};
+ghost use Rattle.road_types.specs.Road.{segment_count};
 ghost use Rattle.plan_rules.specs.Fits.{Fits, IsModerate, IsModeratePiece};
 ghost use Rattle.plan_rules.specs.inside.FitsByParts.{IsModerateRow, IsModerateTable, HasModerateTables, HasModeratePieces};
 

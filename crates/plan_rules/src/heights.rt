@@ -1,7 +1,7 @@
 // Heights of a plan along the road, and how far it lies above the ground.
-ghost use Rattle.std.specs.Prelude.{◌≡◌, ℤ, pos, ◌^◌, ◌+ℤ◌, ◌-ℤ◌, ◌*ℤ◌, ◌≤ℤ◌, None, unsigned_abs, ◌≤◌, length};
+ghost use Rattle.std.specs.Prelude.{◌≡◌, ℤ, ◌^◌, ◌*ℤ◌, None, unsigned_abs, ◌≤◌};
 ghost use Rattle.algebra.specs.Scale.{IsScale};
-ghost use Rattle.road_types.specs.Numbered.{numbered, IsNumber};
+ghost use Rattle.road_types.specs.Numbered.{IsNumber};
 ghost use Rattle.road_types.specs.Heights.{height_along, grade_along};
 ghost use Rattle.road_types.specs.Road.{section_count, segment_count, section};
 ghost use Rattle.road_types.specs.Faults.{road_fault};

@@ -1,6 +1,5 @@
 // The judge: the first rule that a plan breaks, or its cost.
-ghost use Rattle.std.specs.Prelude.{◌≡◌, ◌↔◌, IsTrue, None, MatchOption, ℕ};
-ghost use Rattle.road_types.specs.Numbered.{IsNumber};
+ghost use Rattle.std.specs.Prelude.{◌≡◌, ◌↔◌, IsTrue, None, MatchOption};
 ghost use Rattle.road_types.specs.Faults.{road_fault};
 ghost use Rattle.road_types.specs.WellFormed.{IsWellFormed};
 ghost use Rattle.plan_rules.specs.Fits.{Fits};

@@ -1,5 +1,5 @@
 // Numbers over a denominator between two whole numbers.
-ghost use Rattle.std.specs.Prelude.{◌↔◌, IsTrue, ℤ};
+ghost use Rattle.std.specs.Prelude.{◌↔◌, IsTrue};
 ghost use Rattle.algebra.specs.Scale.{IsScale};
 ghost use Rattle.plan_rules.specs.Rules.{IsWithin};
 

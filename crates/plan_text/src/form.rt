@@ -1,8 +1,8 @@
 ghost use Rattle.std.specs.Prelude.{◌≡◌, IfOk};
 ghost use Rattle.text_parts.specs.Lines.{IsOfSource};
-ghost use Rattle.plan_text.specs.LineForms.{AreOfForm, line_numbers, word_number, short_numbers, so_many};
+ghost use Rattle.plan_text.specs.LineForms.{AreOfForm, line_numbers, word_number, short_numbers};
 ghost use Rattle.plan_text.specs.inside.LineReading.{Gives, numbers_due};
-ghost use Rattle.plan_text.specs.LineForms.{den_form, piece_form, opens_form, end_form};
+ghost use Rattle.plan_text.specs.LineForms.{den_form, opens_form};
 
 use crate::error::TextErr;
 use algebra::GREATEST_SCALE;

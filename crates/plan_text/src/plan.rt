@@ -1,5 +1,5 @@
 ghost use Rattle.std.specs.Prelude.{◌≡◌, ℕ, List, IfOk, Some};
-ghost use Rattle.text_parts.specs.Lines.{Reading, text_of};
+ghost use Rattle.text_parts.specs.Lines.{text_of};
 ghost use Rattle.plan_rules.specs.declared.plan.Plan.{Plan as PlanOf};
 ghost use Rattle.plan_text.specs.Misfits.{IfBad};
 ghost use Rattle.plan_text.specs.PlanText.{StartsWithPlan};

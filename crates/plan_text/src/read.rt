@@ -1,4 +1,4 @@
-ghost use Rattle.std.specs.Prelude.{◌≡◌, ◌-◌, length, OnOk};
+ghost use Rattle.std.specs.Prelude.{◌-◌, OnOk};
 ghost use Rattle.text_parts.specs.Lines.{IsOfSource};
 ghost use Rattle.plan_text.specs.LineForms.{short_numbers};
 ghost use Rattle.plan_text.specs.inside.LineReading.{Gives, Leaves, numbers_due, repeat_due};

@@ -10,7 +10,6 @@ ghost use Rattle.road_types.specs.Volumes.{net_volume};
 ghost use Rattle.road_types.specs.WellFormed.{IsStation, IsBetween, IsWellFormed};
 ghost use Rattle.plan_rules.specs.Fits.{Fits, IsModerate};
 ghost use Rattle.plan_rules.specs.Rules.{IsAdmissible, height_at, offset_of};
-ghost use Rattle.plan_rules.specs.Plans.{amount};
 ghost use Rattle.report.specs.Lines.{Adds, ShowsRatio};
 ghost use Rattle.report.specs.Reports.{profile_line, work_lines, earthwork_lines, haul_lines, right_lines, left_lines, access_lines, block_line};
 ghost use Rattle.report.specs.inside.Listings.{entry_lines, listing_count, listing_lines};

@@ -1,5 +1,5 @@
 // The document of a road file.
-ghost use Rattle.std.specs.Prelude.{◌≡◌, Result, Ok, Err, MatchResult};
+ghost use Rattle.std.specs.Prelude.{Result, Ok, Err};
 ghost use Rattle.toml.specs.Parse.{parse_document};
 ghost use Rattle.toml.specs.View.{table_view};
 ghost use Rattle.road_file.specs.RoadOf.{text_in, of_parsed, document_of};

@@ -1,8 +1,7 @@
 // What a road file says, each value of its kind.
-ghost use Rattle.std.specs.Prelude.{◌≡◌, codes};
+ghost use Rattle.std.specs.Prelude.{◌≡◌};
 ghost use Rattle.toml.specs.View.{view, table_view};
 ghost use Rattle.road_file.specs.Step.{MayAnswer};
-ghost use Rattle.road_file.specs.Kinds.{table_of};
 
 use crate::RoadErr;
 use crate::kinds::{

@@ -1,5 +1,5 @@
 // The ranges of a road file's numbers and the forms of its texts.
-ghost use Rattle.std.specs.Prelude.{◌≡◌, pos};
+ghost use Rattle.std.specs.Prelude.{◌≡◌};
 ghost use Rattle.std.specs.List.{list_all};
 ghost use Rattle.road_file.specs.Ranges.{is_borrow, is_kind, is_table_name, table_in_range, pit_in_range, access_in_range, block_in_range, lists_in_range, scales_in_range, limits_in_range, file_in_range};
 

@@ -1,12 +1,12 @@
 // From the bytes of a road file to its road.
-ghost use Rattle.std.specs.Prelude.{◌≡◌, IfOk, MatchResult, IsTrue, false, map, length, replicate, unwrap_or, option_map};
+ghost use Rattle.std.specs.Prelude.{◌≡◌, IfOk, MatchResult, IsTrue, false, map, unwrap_or, option_map};
 ghost use Rattle.std.specs.Str.{bytes_eq};
 ghost use Rattle.indexmap.specs.IndexMap.{get_by};
 ghost use Rattle.road_types.specs.Faults.{road_fault};
 ghost use Rattle.road_file.specs.Step.{MayAnswer, where_kept};
 ghost use Rattle.road_file.specs.Ranges.{file_in_range};
 ghost use Rattle.toml.specs.View.{table_view};
-ghost use Rattle.road_file.specs.RoadOf.{natural_or_zero, kind_of, pit_from, access_to, access_from, block_from, hops_between, road_from, contents_of, table_name_of, of_table, sections_by, with_sections, completed, of_fault, road_of};
+ghost use Rattle.road_file.specs.RoadOf.{natural_or_zero, kind_of, pit_from, access_to, access_from, block_from, hops_between, road_from, contents_of, table_name_of, of_table, with_sections, completed, of_fault, road_of};
 ghost use Rattle.road_file.specs.inside.Numbering.{IsNumbering};
 ghost use Rattle.road_file.specs.inside.Reading.{contents_in};
 

@@ -1,7 +1,7 @@
 // The number of a column.
 ghost use Rattle.std.specs.Prelude.{◌≡◌, ◌↔◌, ℕ, ◌+◌, ◌*◌, ◌≤◌, MatchOption, IfSome, nat_le, ◌&&◌};
 ghost use Rattle.road_types.specs.WellFormed.{IsCounted};
-ghost use Rattle.road_types.specs.Road.{section_count, segment_count};
+ghost use Rattle.road_types.specs.Road.{section_count};
 ghost use Rattle.road_types.specs.RecordFaults.{is_number};
 ghost use Rattle.road_types.specs.Columns.{IsColumn, column_at, offsets_before, segment_column, stage_column, block_column, column_number};
 

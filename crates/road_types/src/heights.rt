@@ -1,5 +1,5 @@
 // The height and the grade of one quadratic, over a denominator.
-ghost use Rattle.std.specs.Prelude.{◌≡◌, ◌^◌, ◌≤◌, pos, ◌+ℤ◌, ◌*ℤ◌, unsigned_abs};
+ghost use Rattle.std.specs.Prelude.{◌≡◌, ◌^◌, ◌≤◌, ◌+ℤ◌, ◌*ℤ◌, unsigned_abs};
 ghost use Rattle.road_types.specs.Heights.{height_along, grade_along};
 
 use algebra::{plus, times};

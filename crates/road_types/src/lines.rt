@@ -1,7 +1,7 @@
 // The slopes of a section's volume.
 ghost use Rattle.std.specs.Prelude.{◌≡◌, ℤ, pos, map, ◌≤ℤ◌, fold};
 ghost use Rattle.std.specs.Int.{int_max};
-ghost use Rattle.road_types.specs.WellFormed.{IsWellFormedSection, IsSlabTable};
+ghost use Rattle.road_types.specs.WellFormed.{IsSlabTable};
 ghost use Rattle.road_types.specs.Lines.{widest_area, deepest};
 ghost use Rattle.road_types.specs.declared.road.Slab.{Slab as Layer};
 

@@ -1,5 +1,5 @@
 // The segment of a station, and the starts and lengths of segments.
-ghost use Rattle.std.specs.Prelude.{◌≡◌, ℕ, ◌^◌, ◌≤◌, length, pos, ◌-ℤ◌, unsigned_abs};
+ghost use Rattle.std.specs.Prelude.{◌≡◌, ◌^◌, ◌≤◌, length, pos, ◌-ℤ◌, unsigned_abs};
 ghost use Rattle.road_types.specs.Numbered.{numbered, IsNumber};
 ghost use Rattle.road_types.specs.Road.{segment_count};
 ghost use Rattle.road_types.specs.Heights.{knots_before, segment_at, segment_start, segment_length, IsInSegment};

@@ -1,5 +1,5 @@
 // Volumes and thicknesses of slab tables.
-ghost use Rattle.std.specs.Prelude.{◌≡◌, ℤ, pos, neg_ℤ, ◌^◌, ◌+ℤ◌, ◌-ℤ◌, ◌*ℤ◌, ◌≤ℤ◌, ◌≤◌, unsigned_abs};
+ghost use Rattle.std.specs.Prelude.{◌≡◌, ℤ, pos, neg_ℤ, ◌^◌, ◌-ℤ◌, ◌*ℤ◌, ◌≤ℤ◌, ◌≤◌, unsigned_abs};
 ghost use Rattle.std.specs.Int.{int_min, int_max};
 ghost use Rattle.road_types.specs.WellFormed.{IsSlabTable, IsSolidSlab};
 ghost use Rattle.road_types.specs.Volumes.{volume_to, thickness_of, net_volume};

@@ -1,5 +1,5 @@
 // The weight of a road, by what stands on it.
-ghost use Rattle.std.specs.Prelude.{◌≡◌, ℕ, pos, neg_ℤ, ◌+◌, ◌-◌, ◌*◌, ◌^◌, ◌≤◌, unsigned_abs, nat_le, if◌then◌else◌};
+ghost use Rattle.std.specs.Prelude.{◌≡◌, pos, ◌+◌, ◌-◌, ◌*◌, ◌^◌, ◌≤◌, unsigned_abs, nat_le, if◌then◌else◌};
 ghost use Rattle.algebra.specs.Totals.{total_to};
 ghost use Rattle.algebra.specs.Numbered.{IsNumber};
 ghost use Rattle.programs.specs.Weights.{reach};

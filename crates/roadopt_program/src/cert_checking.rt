@@ -1,6 +1,5 @@
 // `check ROAD CERT` on an accepted road.
 ghost use Rattle.std.specs.Prelude.{◌≡◌, IfOk, None};
-ghost use Rattle.std.specs.String.{string_bytes};
 ghost use Rattle.road_types.specs.Faults.{road_fault};
 ghost use Rattle.roadopt_program.specs.CertChecking.{OfCertBytes};
 ghost use Rattle.roadopt_program.specs.Printed.{cert_refused_line, valid_line};

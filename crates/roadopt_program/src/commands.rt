@@ -3,8 +3,7 @@ ghost use Rattle.std.specs.Prelude.{◌≡◌, ◌≢◌, ◌≤◌, IfOk, IsErr
 ghost use Rattle.outside.specs.Faults.{HasRisen};
 ghost use Rattle.road_types.specs.Faults.{road_fault};
 ghost use Rattle.roadopt_program.specs.Inputs.{other_limit};
-ghost use Rattle.roadopt_program.specs.Trying.{Tries};
-ghost use Rattle.roadopt_program.specs.inside.Outcomes.{IsMade, IsMadeOnRoad, OfBytes, made_end, end_of};
+ghost use Rattle.roadopt_program.specs.inside.Outcomes.{IsMade, IsMadeOnRoad, OfBytes, end_of};
 
 use crate::cert_checking::check_bytes;
 use crate::ending::{Ending, Made, missing, unsearched};

@@ -1,5 +1,5 @@
 // What is put out at the end of a run.
-ghost use Rattle.std.specs.Prelude.{◌≡◌, ℕ, List, [], None, IsTrue};
+ghost use Rattle.std.specs.Prelude.{◌≡◌, ℕ, List, None, IsTrue};
 ghost use Rattle.std.specs.String.{string_bytes};
 ghost use Rattle.roadopt_program.specs.Ends.{Says, after_fault, said, missing_end};
 ghost use Rattle.roadopt_program.specs.Statuses.{is_silent};

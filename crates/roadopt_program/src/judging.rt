@@ -1,6 +1,5 @@
 // `judge ROAD PLAN` on an accepted road.
 ghost use Rattle.std.specs.Prelude.{◌≡◌, IfOk, None};
-ghost use Rattle.std.specs.String.{string_bytes};
 ghost use Rattle.road_types.specs.Faults.{road_fault};
 ghost use Rattle.plan_rules.specs.Fits.{Fits};
 ghost use Rattle.roadopt_program.specs.Judging.{OfPlan, OfPlanBytes};

@@ -4,7 +4,7 @@ ghost use Rattle.std.specs.Option.{option_map};
 ghost use Rattle.outside.specs.Faults.{HasRisen};
 ghost use Rattle.road_types.specs.Faults.{road_fault};
 ghost use Rattle.road_file.specs.RoadOf.{table_name_of, road_of};
-ghost use Rattle.roadopt_program.specs.Due.{keeps_rules, road_due};
+ghost use Rattle.roadopt_program.specs.Due.{keeps_rules};
 ghost use Rattle.roadopt_program.specs.Ends.{said};
 ghost use Rattle.roadopt_program.specs.Printed.{road_refused_line};
 ghost use Rattle.roadopt_program.specs.inside.Outcomes.{MakesRoad, IsRoadMade, IsRoadRead, end_of};

@@ -1,5 +1,5 @@
 // `solve ROAD CERT` on an accepted road.
-ghost use Rattle.std.specs.Prelude.{◌≡◌, ◌↔◌, ◌++◌, ℕ, List, IfOk, IsTrue, Some, None};
+ghost use Rattle.std.specs.Prelude.{◌≡◌, ◌↔◌, ℕ, List, IfOk, IsTrue, Some, None};
 ghost use Rattle.road_types.specs.Faults.{road_fault};
 ghost use Rattle.cert_text.specs.CertText.{cert_text};
 ghost use Rattle.cert_text.specs.Certs.{certificate_of, IsSpelledCert};

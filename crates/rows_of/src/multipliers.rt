@@ -1,6 +1,5 @@
 // What scales and multipliers give.
-ghost use Rattle.std.specs.Prelude.{◌≡◌, ◌<◌, ◌≤◌, ◌^◌, IsTrue, None, unsigned_abs};
-ghost use Rattle.std.specs.List.{All};
+ghost use Rattle.std.specs.Prelude.{◌≡◌, ◌<◌, ◌^◌, IsTrue, None, unsigned_abs};
 ghost use Rattle.road_types.specs.Faults.{road_fault};
 ghost use Rattle.milp_builder.specs.Boxes.{IsBoxOf};
 ghost use Rattle.safe_bounds.specs.Values.{IsMultiplier};

@@ -8,7 +8,6 @@ ghost use Rattle.programs.specs.Weights.{reach};
 ghost use Rattle.programs.specs.Limits.{IsWithinLimits};
 ghost use Rattle.safe_bounds.specs.Values.{AreMultipliers, HasRightSigns, IsMultiplier, value_of};
 ghost use Rattle.safe_bounds.specs.Bounds.{BoundsCosts, HasNoPoint};
-ghost use Rattle.safe_bounds.specs.inside.Drawn.{AreAtMost};
 
 use crate::products::times_word;
 use crate::rows::draw_rows;

@@ -1,11 +1,10 @@
 // Scale and multipliers made narrow.
-ghost use Rattle.std.specs.Prelude.{◌≡◌, ◌↔◌, IsTrue, ℕ, ◌/◌, ◌^◌, ◌<◌, ◌≤◌, List, map, ℤ, pos, ◌≤ℤ◌, unsigned_abs};
+ghost use Rattle.std.specs.Prelude.{◌≡◌, ◌↔◌, IsTrue, ℕ, ◌/◌, ◌^◌, ◌<◌, ◌≤◌, map, ℤ, pos, ◌≤ℤ◌, unsigned_abs};
 ghost use Rattle.std.specs.List.{All};
 ghost use Rattle.algebra.specs.Scale.{IsScale, greatest_scale};
 ghost use Rattle.programs.specs.Programs.{Program};
 ghost use Rattle.safe_bounds.specs.Values.{HasRightSigns, IsMultiplier};
 ghost use Rattle.safe_bounds.specs.Narrowing.{AreNarrow, AreNearer, IsLeastShift, IsNarrowed, shifted};
-ghost use Rattle.safe_bounds.specs.inside.Drawn.{AreAtMost};
 ghost use Rattle.safe_bounds.specs.inside.Magnitudes.{greatest_magnitude};
 
 use algebra::GREATEST_SCALE;

@@ -1,13 +1,13 @@
 // The rows for heights and grades.
-ghost use Rattle.std.specs.Prelude.{◌≡◌, ℤ, neg_ℤ, unsigned_abs, ◌^◌, ◌<◌, ◌≤◌, ◌+◌, ◌*◌, ◌-◌, [], ◌∷◌, length};
+ghost use Rattle.std.specs.Prelude.{◌≡◌, ◌<◌, ◌≤◌, ◌+◌, ◌*◌, ◌-◌, [], ◌∷◌, length};
 ghost use Rattle.algebra.specs.Numbered.{IsNumber};
 ghost use Rattle.form_rows.specs.FormRows.{form_terms, forms_terms, Grew};
 ghost use Rattle.road_types.specs.RoadPrograms.{terms_of};
 ghost use Rattle.road_types.specs.Accepted.{IsAccepted};
 ghost use Rattle.road_types.specs.Columns.{column_count};
 ghost use Rattle.road_types.specs.Road.{section as section_of, section_count, segment_count, fixed_count, fixed_point};
-ghost use Rattle.road_types.specs.SectionForms.{height_entries, grade_entries, station_entries, offset_form, offset_forms, next_height_form, next_grade_form, continuity_forms, grade_end_forms, fixed_forms};
-ghost use Rattle.road_types.specs.Forms.{least_form, negated, between_forms};
+ghost use Rattle.road_types.specs.SectionForms.{grade_entries, station_entries, offset_form, offset_forms, next_height_form, next_grade_form, continuity_forms, grade_end_forms, fixed_forms};
+ghost use Rattle.road_types.specs.Forms.{negated};
 ghost use Rattle.road_types.specs.Heights.{segment_length};
 ghost use Rattle.road_types.specs.WellFormed.{IsOnKnots};
 

@@ -1,7 +1,7 @@
 // The slopes of a section's volume over a range of offsets, and the right sides of its four rows.
-ghost use Rattle.std.specs.Prelude.{◌≡◌, ◌≤◌, ◌^◌, ◌++◌, fold, ℤ, pos, neg_ℤ, ◌+ℤ◌, ◌-ℤ◌, ◌*ℤ◌, ◌≤ℤ◌, unsigned_abs, int_le, ◌&&◌, if◌then◌else◌, [], ◌∷◌};
+ghost use Rattle.std.specs.Prelude.{◌≡◌, ◌≤◌, fold, ℤ, pos, ◌+ℤ◌, ◌≤ℤ◌, int_le, ◌&&◌, if◌then◌else◌, [], ◌∷◌};
 ghost use Rattle.std.specs.Int.{int_min, int_max};
-ghost use Rattle.road_types.specs.Lines.{areas_between, lines_over, volume_at};
+ghost use Rattle.road_types.specs.Lines.{areas_between, lines_over};
 ghost use Rattle.road_types.specs.Ranges.{IsHeightRange};
 ghost use Rattle.road_types.specs.WellFormed.{IsSlabTable, IsSolidSlab};
 ghost use Rattle.section_rows.specs.inside.Scans.{area_within, IsScan};

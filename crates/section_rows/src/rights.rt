@@ -1,5 +1,5 @@
 // The right sides of a section's four rows.
-ghost use Rattle.std.specs.Prelude.{◌≡◌, ◌≤◌, ◌^◌, ℤ, pos, ◌-ℤ◌, ◌*ℤ◌, unsigned_abs};
+ghost use Rattle.std.specs.Prelude.{◌≡◌, ◌≤◌, ◌^◌, ℤ, ◌-ℤ◌, ◌*ℤ◌, unsigned_abs};
 ghost use Rattle.algebra.specs.Numbered.{IsNumber};
 ghost use Rattle.road_types.specs.Accepted.{IsAccepted};
 ghost use Rattle.road_types.specs.Lines.{volume_at};

@@ -1,5 +1,5 @@
 // What the rows for heights and volumes ask of the sums of their terms.
-ghost use Rattle.std.specs.Prelude.{None, ◌≡◌, ◌+◌, ◌*◌, ◌-◌, ◌++◌, length};
+ghost use Rattle.std.specs.Prelude.{None, ◌≡◌, ◌+◌, ◌*◌, ◌-◌, ◌++◌};
 ghost use Rattle.algebra.specs.Numbered.{numbered, IsNumber};
 ghost use Rattle.form_rows.specs.FormRows.{asked};
 ghost use Rattle.road_types.specs.Faults.{road_fault};
@@ -8,7 +8,6 @@ ghost use Rattle.road_types.specs.Forms.{no_form};
 ghost use Rattle.road_types.specs.Ranges.{AreHeightRanges};
 ghost use Rattle.road_types.specs.Road.{section_count, segment_count, fixed_count};
 ghost use Rattle.road_types.specs.RoadPrograms.{lines_in, section_row_count};
-ghost use Rattle.section_rows.specs.inside.Rights.{right_at};
 ghost use Rattle.road_types.specs.SectionForms.{offset_forms, continuity_forms, grade_end_forms, fixed_forms, volume_forms, section_forms};
 
 use crate::numbers::opposite;

@@ -1,13 +1,12 @@
 // The rows that keep a section's volume between its lines.
-ghost use Rattle.std.specs.Prelude.{◌≡◌, ◌<◌, ◌≤◌, ◌+◌, ◌*◌, ◌^◌, [], ◌∷◌, ◌++◌, length, ℤ, pos, neg_ℤ, unsigned_abs};
+ghost use Rattle.std.specs.Prelude.{◌≡◌, ◌<◌, ◌≤◌, ◌+◌, ◌*◌, ◌^◌, [], ◌∷◌, ◌++◌, length, unsigned_abs};
 ghost use Rattle.algebra.specs.Lists.{flat_to};
 ghost use Rattle.algebra.specs.Numbered.{IsNumber};
 ghost use Rattle.form_rows.specs.FormRows.{forms_terms, Grew};
 ghost use Rattle.road_types.specs.Accepted.{IsAccepted};
 ghost use Rattle.road_types.specs.Columns.{column_count};
 ghost use Rattle.road_types.specs.Forms.{negated};
-ghost use Rattle.road_types.specs.Lines.{Lines};
-ghost use Rattle.road_types.specs.Ranges.{AreHeightRanges, height_range};
+ghost use Rattle.road_types.specs.Ranges.{AreHeightRanges};
 ghost use Rattle.road_types.specs.Road.{section, section_count};
 ghost use Rattle.road_types.specs.RoadPrograms.{terms_of, lines_in};
 ghost use Rattle.road_types.specs.SectionForms.{volume_entries, lines_forms, volume_forms};

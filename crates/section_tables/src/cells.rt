@@ -1,5 +1,5 @@
 // Cells: numbers within their ranges, and lists of slabs.
-ghost use Rattle.std.specs.Prelude.{◌≡◌, Option, Some, None, option_map, ◌∷◌, []};
+ghost use Rattle.std.specs.Prelude.{Some, ◌∷◌, []};
 ghost use Rattle.text_parts.specs.Words.{parts_between};
 ghost use Rattle.road_types.specs.RecordFaults.{is_station, is_height, is_measure, is_cost, is_cap};
 ghost use Rattle.section_tables.specs.Steps.{MayAnswer, where_kept, each};

@@ -1,5 +1,5 @@
 // The changes that an exchange makes when all its rows are prepared.
-ghost use Rattle.std.specs.Prelude.{◌≡◌, ◌≢◌, ◌+◌, ◌<◌, ◌≤◌, ℕ, [], Bool, false, length, slice_index_or, cond, if◌then◌else◌};
+ghost use Rattle.std.specs.Prelude.{◌≡◌, ◌+◌, ◌<◌, ℕ, [], false, length, slice_index_or, cond, if◌then◌else◌};
 ghost use Rattle.std.specs.List.{swap};
 ghost use Rattle.sparse_rows.specs.Lines.{IsLine};
 ghost use Rattle.simplex.specs.inside.Rows.{IsRestood, IsStood};

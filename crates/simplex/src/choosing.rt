@@ -1,11 +1,11 @@
 // Which bound a basic value breaks, and which column is to enter.
-ghost use Rattle.std.specs.Prelude.{◌≡◌, ◌≢◌, ◌↔◌, ◌⊎◌, ◌+◌, ◌-◌, ◌*◌, ◌<◌, ◌≤◌, ℕ, Bool, true, false, length, slice_index_or, ℤ, pos, ◌+ℤ◌, ◌*ℤ◌, ◌<ℤ◌, IfOk, IfErr, IfSome, IfNone, IsTrue, unsigned_abs};
+ghost use Rattle.std.specs.Prelude.{◌≡◌, ◌≢◌, ◌↔◌, ◌⊎◌, ◌+◌, ◌-◌, ◌*◌, ◌<◌, ◌≤◌, ℕ, true, false, length, slice_index_or, ℤ, pos, ◌+ℤ◌, IfOk, IfErr, IfSome, IfNone, IsTrue, unsigned_abs};
 ghost use Rattle.tableau.specs.Signs.{IsOppositeSign, IsSameSign};
 ghost use Rattle.tableau.specs.Exchanges.{IsToward};
 ghost use Rattle.tableau.specs.declared.bound.Bound.TheVariants.{Lower, Upper};
-ghost use Rattle.sparse_rows.specs.Lines.{IsLine, entry_of};
+ghost use Rattle.sparse_rows.specs.Lines.{IsLine};
 ghost use Rattle.sparse_rows.specs.Sums.{meaning_at};
-ghost use Rattle.simplex.specs.inside.Choices.{IsBroken, IsChosen, IsWideRatio, IsWideSum, MayEnter, row_rest};
+ghost use Rattle.simplex.specs.inside.Choices.{IsBroken, IsChosen, IsWideRatio, IsWideSum, MayEnter};
 
 use crate::signs::{is_opposite_sign, is_positive, is_same_sign};
 use numbers::Whole;

@@ -1,5 +1,5 @@
 // The point of an optimal tableau.
-ghost use Rattle.std.specs.Prelude.{◌≡◌, ◌≢◌, ◌+◌, ◌<◌, ◌≤◌, ℕ, ℤ, [], length, pos, ◌<ℤ◌, vec_capacity, slice_index_or, IfOk, IfErr, IfSome, IfNone};
+ghost use Rattle.std.specs.Prelude.{◌≡◌, ◌≢◌, ◌+◌, ◌<◌, ◌≤◌, ℕ, ℤ, [], length, pos, vec_capacity, slice_index_or, IfOk, IfErr, IfSome, IfNone};
 ghost use Rattle.algebra.specs.Numbered.{numbered};
 ghost use Rattle.programs.specs.Programs.{column_count, row_count};
 ghost use Rattle.tableau.specs.Tableaux.{IsNonbasic, IsRow, basic_entry, rest, standing};

@@ -1,9 +1,8 @@
 // The numbers of a program, put into the range of a type.
-ghost use Rattle.std.specs.Prelude.{◌≡◌, ◌+◌, ◌-◌, ◌<◌, ◌≤◌, ℕ, [], Bool, false, length, replicate, vec_capacity, slice_index_or, IfOk, IfErr, pos};
+ghost use Rattle.std.specs.Prelude.{◌≡◌, ◌+◌, ◌-◌, ◌<◌, ◌≤◌, ℕ, [], false, length, replicate, vec_capacity, slice_index_or, IfOk, IfErr};
 ghost use Rattle.algebra.specs.Numbered.{IsNumber};
 ghost use Rattle.programs.specs.Programs.{column_count, row_count};
 ghost use Rattle.sparse_rows.specs.Lines.{IsFilled};
-ghost use Rattle.sparse_rows.specs.Sums.{meaning_at};
 ghost use Rattle.simplex.specs.Givens.{given_of, has_high_at, high_at, low_at};
 ghost use Rattle.tableau.specs.Operations.{IsWideNumber};
 ghost use Rattle.simplex.specs.Starts.{cost_entry, start_entry};

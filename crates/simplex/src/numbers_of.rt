@@ -1,6 +1,5 @@
 // The numbers that a tableau ends with.
-ghost use Rattle.std.specs.Prelude.{◌≡◌, ◌≢◌, ◌+◌, ◌<◌, ◌≤◌, ℕ, [], Bool, length, vec_capacity, ℤ, pos, neg_ℤ, if◌then◌else◌};
-ghost use Rattle.algebra.specs.Numbered.{numbered};
+ghost use Rattle.std.specs.Prelude.{◌≡◌, ◌+◌, ◌<◌, ◌≤◌, ℕ, [], vec_capacity, ℤ, neg_ℤ, if◌then◌else◌};
 ghost use Rattle.tableau.specs.Ends.{turned_by};
 ghost use Rattle.sparse_rows.specs.Lines.{IsLine, entry_of};
 ghost use Rattle.simplex.specs.inside.Slacks.{AreSlacks};

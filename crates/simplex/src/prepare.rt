@@ -1,5 +1,5 @@
 // What becomes of the rows in an exchange, written into spare rows.
-ghost use Rattle.std.specs.Prelude.{◌≡◌, ◌≢◌, ◌⊎◌, ◌<ℤ◌, ◌*ℤ◌, ◌+◌, ◌<◌, ◌≤◌, ℕ, List, [], Bool, true, false, length, vec_capacity, slice_index_or, slice_set, ℤ, pos, unsigned_abs, IfOk, IfErr};
+ghost use Rattle.std.specs.Prelude.{◌≡◌, ◌≢◌, ◌<ℤ◌, ◌*ℤ◌, ◌+◌, ◌<◌, ◌≤◌, ℕ, List, [], true, false, length, vec_capacity, slice_index_or, slice_set, ℤ, pos, unsigned_abs, IfOk, IfErr};
 ghost use Rattle.numbers.specs.Divisors.{Divides};
 ghost use Rattle.term_store.specs.declared.term.Term.{Term};
 ghost use Rattle.tableau.specs.Exchanges.{IsDivided};

@@ -1,5 +1,5 @@
 // An exchange on the rows, the basis and the bounds at which columns stand.
-ghost use Rattle.std.specs.Prelude.{◌≡◌, ◌≢◌, ◌+◌, ◌<◌, ◌≤◌, ℕ, [], Bool, false, length, vec_capacity, slice_index_or, slice_set, ℤ, pos, IfOk, IfErr, IsOk};
+ghost use Rattle.std.specs.Prelude.{◌≡◌, ◌≢◌, ◌+◌, ◌<◌, ◌≤◌, ℕ, [], length, vec_capacity, slice_index_or, slice_set, pos, IfOk, IfErr};
 ghost use Rattle.sparse_rows.specs.Lines.{IsLine, entry_of};
 ghost use Rattle.simplex.specs.inside.Rows.{IsChangedRow, IsRestanding, IsWideRow, LeavesEntries};
 

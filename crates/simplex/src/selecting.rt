@@ -1,5 +1,5 @@
 // The choice of an exchange.
-ghost use Rattle.std.specs.Prelude.{◌≡◌, ◌≢◌, ◌⊎◌, ◌<◌, ◌≤◌, ℕ, [], length, slice_index_or, IfOk, IfErr, IfSome, IfNone, nat_lt, if◌then◌else◌};
+ghost use Rattle.std.specs.Prelude.{◌≡◌, ◌≢◌, ◌⊎◌, ◌<◌, [], slice_index_or, IfOk, IfErr, IfSome, IfNone, nat_lt, if◌then◌else◌};
 ghost use Rattle.tableau.specs.Tableaux.{IsRow};
 ghost use Rattle.tableau.specs.Exchanges.{IsOutside};
 ghost use Rattle.programs.specs.Programs.{row_count};

@@ -1,9 +1,9 @@
 // Signs of numbers, and which bound they tell.
-ghost use Rattle.std.specs.Prelude.{◌≡◌, ◌↔◌, ◌≢◌, Bool, ℤ, pos, ◌<ℤ◌, IsTrue};
+ghost use Rattle.std.specs.Prelude.{◌≡◌, ◌↔◌, ℤ, pos, ◌<ℤ◌, IsTrue};
 ghost use Rattle.tableau.specs.Signs.{IsOppositeSign, IsSameSign};
 ghost use Rattle.tableau.specs.Exchanges.{IsToward};
 ghost use Rattle.tableau.specs.declared.bound.Bound.{Bound};
-ghost use Rattle.tableau.specs.declared.bound.Bound.TheVariants.{Lower, Upper};
+ghost use Rattle.tableau.specs.declared.bound.Bound.TheVariants.{Upper};
 
 use numbers::Whole;
 use sparse_rows::is_negative;

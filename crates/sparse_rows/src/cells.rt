@@ -1,5 +1,5 @@
 // Cells of a reduced row, computed in the wider range.
-ghost use Rattle.std.specs.Prelude.{◌≡◌, ◌≢◌, ℕ, ◌+◌, ◌<◌, ◌≤◌, [], ◌∷◌, ◌++◌, length, vec_capacity, ℤ, pos, neg_ℤ, ◌*ℤ◌, ◌<ℤ◌, IsSome, IfSome, IfNone, IsTrue, ◌↔◌, unsigned_abs};
+ghost use Rattle.std.specs.Prelude.{◌≡◌, ℕ, ◌+◌, ◌<◌, ◌≤◌, length, vec_capacity, ℤ, pos, ◌<ℤ◌, IfSome, IfNone, IsTrue, ◌↔◌};
 ghost use Rattle.sparse_rows.specs.Lines.{IsFilled};
 ghost use Rattle.sparse_rows.specs.Cells.{cell, IsWideCell};
 

@@ -1,5 +1,5 @@
 // A row times a factor less a pivot row times another.
-ghost use Rattle.std.specs.Prelude.{◌≡◌, ℕ, ◌≤◌, vec_capacity, IfOk, IfErr};
+ghost use Rattle.std.specs.Prelude.{◌≡◌, ◌≤◌, vec_capacity, IfOk, IfErr};
 ghost use Rattle.sparse_rows.specs.Lines.{IsLine, IsFilled, entry_of};
 ghost use Rattle.sparse_rows.specs.Cells.{cell, IsWideCell};
 

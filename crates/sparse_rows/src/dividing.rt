@@ -1,5 +1,5 @@
 // Rows divided by the greatest common divisor of their entries.
-ghost use Rattle.std.specs.Prelude.{◌≡◌, ◌≢◌, ◌↔◌, ℕ, ◌<◌, ◌≤◌, length, ℤ, pos, ◌*ℤ◌, ◌<ℤ◌, IfOk, IfErr, IfSome, IfNone, IsTrue, ◌⊎◌, ◌≤ℤ◌, unsigned_abs};
+ghost use Rattle.std.specs.Prelude.{◌≡◌, ◌≢◌, ◌↔◌, ℕ, ◌<◌, ◌≤◌, ℤ, pos, ◌*ℤ◌, ◌<ℤ◌, IfOk, IfErr, IfSome, IfNone, IsTrue, ◌⊎◌, ◌≤ℤ◌, unsigned_abs};
 ghost use Rattle.std.specs.List.{All};
 ghost use Rattle.numbers.specs.Divisors.{Divides};
 ghost use Rattle.sparse_rows.specs.Lines.{IsLine, entry_of};

@@ -1,5 +1,5 @@
 // The factors by which a row and the pivot row are multiplied.
-ghost use Rattle.std.specs.Prelude.{◌≡◌, ◌≢◌, ℤ, pos, unsigned_abs};
+ghost use Rattle.std.specs.Prelude.{◌≢◌, pos};
 ghost use Rattle.sparse_rows.specs.Cells.{AreFactors};
 
 use crate::cells::is_negative;

@@ -1,8 +1,8 @@
 // The sum of a row at the bounds where its columns stand.
-ghost use Rattle.std.specs.Prelude.{◌≡◌, ◌≢◌, ◌⊎◌, ℕ, ◌-◌, ◌<◌, ◌≤◌, length, slice_index_or, false, ℤ, ◌*ℤ◌, IfOk, IfErr, IfSome, IfNone, unsigned_abs};
+ghost use Rattle.std.specs.Prelude.{◌≡◌, ◌⊎◌, ◌-◌, ◌<◌, ◌≤◌, length, ℤ, ◌*ℤ◌, IfOk, IfErr, IfSome, IfNone, unsigned_abs};
 ghost use Rattle.algebra.specs.Sums.{sum_to};
-ghost use Rattle.sparse_rows.specs.Lines.{IsLine, entry_of};
-ghost use Rattle.sparse_rows.specs.Sums.{meaning_at, share, standing_at};
+ghost use Rattle.sparse_rows.specs.Lines.{IsLine};
+ghost use Rattle.sparse_rows.specs.Sums.{share, standing_at};
 
 use crate::cells::{is_zero, widened};
 use numbers::Whole;

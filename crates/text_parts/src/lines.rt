@@ -1,4 +1,4 @@
-ghost use Rattle.std.specs.Prelude.{◌≡◌, ◌<◌, ◌+◌, ◌^◌, List, [], ◌∷◌, MatchOption, IfSome, All};
+ghost use Rattle.std.specs.Prelude.{◌≡◌, ◌<◌, ◌+◌, ◌^◌, IfSome, All};
 ghost use Rattle.text_parts.specs.Lines.{lines_of, GivesNext, IsOfSource, IsSpanOf, end_of};
 
 use crate::cut::cut_at;

@@ -1,5 +1,5 @@
 // The trial road of a number.
-ghost use Rattle.std.specs.Prelude.{◌≡◌, ◌≤◌, ◌<◌, ◌^◌, ◌+◌, ◌-◌, IfOk, [], ◌∷◌, None, replicate};
+ghost use Rattle.std.specs.Prelude.{◌≡◌, ◌≤◌, ◌<◌, ◌^◌, ◌+◌, ◌-◌, IfOk, None, replicate};
 ghost use Rattle.algebra.specs.Lists.{list_to};
 ghost use Rattle.road_types.specs.Faults.{road_fault};
 ghost use Rattle.trial_roads.specs.Draws.{state_after};

@@ -1,5 +1,5 @@
 // Nodes that are read one at a time. In a text `\n` stands for a line feed.
-ghost use Rattle.std.specs.Prelude.{◌≡◌, ◌≤◌, IfOk};
+ghost use Rattle.std.specs.Prelude.{◌≤◌};
 
 use crate::shown;
 use cert_text::{LeafBuf, NodeReader, Step};

@@ -1,6 +1,6 @@
 // Nodes as they are written in a line.
-ghost use Rattle.std.specs.Prelude.{◌≡◌, ◌↔◌, ◌&&◌, ◌<◌, ◌≤◌, ◌≢◌, IsTrue, IfOk, IfSome, None, pos, unsigned_abs};
-ghost use Rattle.algebra.specs.Scale.{IsScale, greatest_scale};
+ghost use Rattle.std.specs.Prelude.{◌≡◌, ◌↔◌, ◌&&◌, ◌<◌, IsTrue, IfOk, IfSome, None, unsigned_abs};
+ghost use Rattle.algebra.specs.Scale.{IsScale};
 ghost use Rattle.road_types.specs.Faults.{road_fault};
 ghost use Rattle.road_types.specs.RoadPrograms.{row_count};
 ghost use Rattle.cert_tree.specs.Trees.{AreMultipliersBehind, IsMultiplierBehind, box_tree_of, dead, low};

@@ -1,5 +1,5 @@
 // Openings, and what blocks keep from being moved.
-ghost use Rattle.std.specs.Prelude.{◌↔◌, IsTrue, ◌≡◌, ◌≤ℤ◌};
+ghost use Rattle.std.specs.Prelude.{◌↔◌, IsTrue};
 ghost use Rattle.road_types.specs.Numbered.{IsNumber};
 ghost use Rattle.road_types.specs.Road.{block_count};
 ghost use Rattle.road_types.specs.WellFormed.{IsWellFormed};

@@ -1,5 +1,5 @@
 // Caps of amounts and capacities of pits.
-ghost use Rattle.std.specs.Prelude.{◌↔◌, IsTrue, ◌≡◌, ◌≤ℤ◌, ◌≤◌, pos};
+ghost use Rattle.std.specs.Prelude.{◌↔◌, IsTrue, ◌≡◌, ◌≤◌};
 ghost use Rattle.algebra.specs.Sums.{sum_to};
 ghost use Rattle.road_types.specs.Numbered.{IsNumber};
 ghost use Rattle.road_types.specs.Road.{section_count, hop_count, access_count, pit_count, section, hop, access};

@@ -1,5 +1,5 @@
 // What comes to a section and what leaves it.
-ghost use Rattle.std.specs.Prelude.{◌↔◌, IsTrue, ◌≡◌, ℤ, ◌^◌, ◌≤◌, ◌*◌, unsigned_abs};
+ghost use Rattle.std.specs.Prelude.{◌↔◌, IsTrue, ◌≡◌, ◌^◌, ◌≤◌, ◌*◌, unsigned_abs};
 ghost use Rattle.algebra.specs.Sums.{sum_to};
 ghost use Rattle.road_types.specs.Numbered.{IsNumber};
 ghost use Rattle.road_types.specs.Road.{section_count, access_count};

@@ -1,5 +1,5 @@
 // Offsets within the slabs, and the volumes that go with them.
-ghost use Rattle.std.specs.Prelude.{◌↔◌, IsTrue, ◌≡◌, ◌^◌, pos, neg_ℤ, ◌≤ℤ◌, ◌≤◌, unsigned_abs};
+ghost use Rattle.std.specs.Prelude.{◌↔◌, IsTrue, ◌≡◌, ◌^◌, neg_ℤ, ◌≤◌, unsigned_abs};
 ghost use Rattle.algebra.specs.Sums.{sum_to};
 ghost use Rattle.algebra.specs.Scale.{IsScale};
 ghost use Rattle.road_types.specs.Numbered.{IsNumber};

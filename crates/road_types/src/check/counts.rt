@@ -1,5 +1,5 @@
 // Numbers of entries, and budgets.
-ghost use Rattle.std.specs.Prelude.{◌≡◌, length};
+ghost use Rattle.std.specs.Prelude.{◌≡◌};
 ghost use Rattle.std.specs.List.{list_all};
 ghost use Rattle.road_types.specs.RecordFaults.{has_few_slabs, stretch_counts_hold, counts_hold, budgets_hold};
 

@@ -1,5 +1,5 @@
 // Numbers that rise, lows below highs, and stations between the first and the last knot.
-ghost use Rattle.std.specs.Prelude.{◌≡◌, ◌+◌, ◌≤◌, length, int_lt};
+ghost use Rattle.std.specs.Prelude.{◌≡◌, int_lt};
 ghost use Rattle.std.specs.List.{list_all};
 ghost use Rattle.road_types.specs.RecordFaults.{rises, comes_before, stations_rise, first_of, last_of, is_on_knots, sections_on_knots, knots_hold, low_holds, lows_hold};
 

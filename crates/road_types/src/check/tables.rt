@@ -1,5 +1,5 @@
 // Slab tables, names that differ, and numbers of pits and sections that are there.
-ghost use Rattle.std.specs.Prelude.{◌≡◌, length};
+ghost use Rattle.std.specs.Prelude.{◌≡◌};
 ghost use Rattle.std.specs.List.{list_all};
 ghost use Rattle.road_types.specs.RecordFaults.{is_solid, is_table, has_tables, differs_from, names_differ, is_number, has_pit, pits_hold, stands_at_section, block_at_section, point_on_knots, places_hold, stands_elsewhere, blocks_differ};
 
