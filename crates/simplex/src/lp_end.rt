@@ -3,7 +3,7 @@ use tableau::{Exchange, Op};
 
 /// How a linear program ends. A trail holds the good exchanges from the start; points have a numerator for each column, and
 /// rays and multipliers a number for each row. The value of scale and multipliers bounds the costs times the scale.
-#[derive(Drop)]
+#[derive(Debug, Drop)]
 pub enum LpEnd {
     /// The point over `den` has the least cost: its cost times `scale` is the value of the multipliers times `den`.
     Best {
@@ -36,7 +36,7 @@ pub enum LpEnd {
 }
 
 /// Which of two ranges of numbers an end is told in.
-#[derive(Drop)]
+#[derive(Debug, Drop)]
 pub enum Used {
     /// The first one.
     First,
