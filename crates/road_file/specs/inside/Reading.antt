@@ -18,6 +18,10 @@ use Rattle.road_file.specs.Ranges.{file_in_range}
 use Rattle.road_file.specs.Kinds.{table_of, whole_of, whole_at, pair_at, list_at, whole_or, text_or_none, list_or_empty}
 use Rattle.road_file.specs.Records.{slab_of, section_of, hop_of, fixed_of, pit_of, access_of, block_of, file_of}
 
+-- the height of the ground at a section, in mm
+abbrev ground : Section → ℤ
+ground s = s.ground
+
 -- the costs and limits of a section behind its tables
 unfoldable pub section_with : Members → ℤ → ℤ → List Slab → List Slab → Result Section Fault
 section_with members station height cut fill = do
