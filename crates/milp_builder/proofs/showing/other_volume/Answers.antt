@@ -5,7 +5,7 @@ use Rattle.std.proofs.lemmas.Int.{to_z-of_z}
 use Rattle.road_types.specs.Numbered.{IsNumber}
 use Rattle.road_points.specs.Shown.{IsExactAt}
 use Rattle.milp_builder.proofs.ShownLemmas.{numbers_more}
-use Rattle.milp_builder.proofs.shown.other_volume.Goals as goal
+use Rattle.milp_builder.proofs.showing.other_volume.Goals as goal
 
 pub returns-then-not-is_exact_at : goal.returns-then-not-is_exact_at
 returns-then-not-is_exact_at c =

@@ -1,6 +1,5 @@
 // What a point of a road's program shows: its numbers by kind of column, parts of removals, volumes, and the plan.
 ghost use Rattle.std.specs.Prelude.{◌≡◌, ◌↔◌, ◌⊎◌, IsTrue, MatchOption, length, ◌-ℤ◌};
-ghost use Rattle.algebra.specs.Scale.{IsScale};
 ghost use Rattle.road_types.specs.Numbered.{IsNumber};
 ghost use Rattle.road_types.specs.WellFormed.{IsWellFormed};
 ghost use Rattle.road_types.specs.Road.{section, section_count, block_count};
@@ -8,13 +7,15 @@ ghost use Rattle.road_types.specs.Volumes.{net_volume};
 ghost use Rattle.road_types.specs.Columns.{columns_of};
 ghost use Rattle.road_types.specs.declared.column.Column.TheVariants.{Offset, Cut, Fill};
 ghost use Rattle.road_points.specs.Shown.{shown, IsWholeAt, HasWholeRemovals, moved_volume, IsExactAt, HasExactVolumes};
+ghost use Rattle.milp_builder.specs.Comparing.{IsComparable, HasComparableVolumes};
 ghost use Rattle.milp_builder.specs.FoundPlans.{IsPartRemoval, IsOtherVolume};
-ghost use Rattle.milp_builder.specs.inside.SmallPoints.{HasSmallVolumes, IsOpenedWhole};
+ghost use Rattle.milp_builder.specs.inside.ShownPlans.{IsOpenedWhole};
 
+use crate::volumes::net_volume;
 use algebra::{minus, plus, same};
-use road_types::{Column, Road, column_of, net_volume};
+use road_types::{Column, Road, column_of};
 
-/// The point's number in the column of a kind; 0 where the road has no such column.
+/// The point's number in the column of a kind, over the point's denominator; 0 where the road has no such column.
 pub fn shown(road: &Road, point: &[i128], kind: Column) -> i128
     requires well_formed { IsWellFormed road.now }
     requires columns { length point.now ≡ length (columns_of road.now) }
@@ -26,7 +27,7 @@ pub fn shown(road: &Road, point: &[i128], kind: Column) -> i128
     }
 }
 
-/// The first block, and its first stage, at which a removal is neither done nor undone.
+/// The first block, from 1, and its first stage, from 2, at which a removal is neither done nor undone.
 pub fn part_removal(road: &Road, den: i128, point: &[i128]) -> Option<(usize, usize)>
     requires well_formed { IsWellFormed road.now }
     requires columns { length point.now ≡ length (columns_of road.now) }
@@ -73,8 +74,8 @@ fn is_one_of(x: i128, a: i128, b: i128) -> bool
 pub fn other_volume(road: &Road, den: i128, point: &[i128]) -> Option<usize>
     requires well_formed { IsWellFormed road.now }
     requires columns { length point.now ≡ length (columns_of road.now) }
-    requires den { IsScale den }
-    requires small { HasSmallVolumes road.now point.now }
+    requires den { IsComparable den }
+    requires small { HasComparableVolumes road.now point.now }
     ensures { MatchOption result (HasExactVolumes road.now den point.now) (λ i. IsOtherVolume road.now den point.now i) }
 {
     for before in 0..road.sections.len() {
@@ -85,11 +86,12 @@ pub fn other_volume(road: &Road, den: i128, point: &[i128]) -> Option<usize>
     None
 }
 
-fn is_exact_at(road: &Road, den: i128, point: &[i128], section: usize) -> bool
+/// Whether a section, from 1, is filled and cut as its offset asks.
+pub fn is_exact_at(road: &Road, den: i128, point: &[i128], section: usize) -> bool
     requires well_formed { IsWellFormed road.now }
     requires columns { length point.now ≡ length (columns_of road.now) }
-    requires den { IsScale den }
-    requires small { HasSmallVolumes road.now point.now }
+    requires den { IsComparable den }
+    requires small { HasComparableVolumes road.now point.now }
     requires section { IsNumber section (section_count road.now) }
     ensures { IsTrue result ↔ IsExactAt road.now den point.now section }
 {
@@ -99,12 +101,13 @@ fn is_exact_at(road: &Road, den: i128, point: &[i128], section: usize) -> bool
     )
 }
 
-/// The table's volume at the offset that the point shows.
-fn volume_of_offset(road: &Road, den: i128, point: &[i128], number: usize) -> i128
+/// The volume of a section, from 1, at the offset that the point shows, in litres: what fills it up to there, less what is cut down to
+/// there. Offset and volume are over the denominator.
+pub fn volume_of_offset(road: &Road, den: i128, point: &[i128], number: usize) -> i128
     requires well_formed { IsWellFormed road.now }
     requires columns { length point.now ≡ length (columns_of road.now) }
-    requires den { IsScale den }
-    requires small { HasSmallVolumes road.now point.now }
+    requires den { IsComparable den }
+    requires small { HasComparableVolumes road.now point.now }
     requires section { IsNumber number (section_count road.now) }
     ensures { result ≡ net_volume (section road.now number).cut (section road.now number).fill
         (shown road.now point.now (Offset number)) den }
@@ -116,11 +119,12 @@ fn volume_of_offset(road: &Road, den: i128, point: &[i128], number: usize) -> i1
     )
 }
 
-/// What the point fills in a section in all stages, less what it cuts.
-fn moved_volume(road: &Road, point: &[i128], section: usize) -> i128
+/// What the point fills in a section, from 1, in all stages, less what it cuts: in litres over the denominator. 0 where the road has
+/// no such section.
+pub fn moved_volume(road: &Road, point: &[i128], section: usize) -> i128
     requires well_formed { IsWellFormed road.now }
     requires columns { length point.now ≡ length (columns_of road.now) }
-    requires small { HasSmallVolumes road.now point.now }
+    requires small { HasComparableVolumes road.now point.now }
     ensures { result ≡ moved_volume road.now point.now section }
 {
     let mut total = 0;
@@ -134,7 +138,7 @@ fn moved_volume(road: &Road, point: &[i128], section: usize) -> i128
 fn moved_in(road: &Road, point: &[i128], section: usize, stage: usize) -> i128
     requires well_formed { IsWellFormed road.now }
     requires columns { length point.now ≡ length (columns_of road.now) }
-    requires small { HasSmallVolumes road.now point.now }
+    requires small { HasComparableVolumes road.now point.now }
     ensures { result ≡ shown road.now point.now (Fill section stage) -ℤ shown road.now point.now (Cut section stage) }
 {
     minus(

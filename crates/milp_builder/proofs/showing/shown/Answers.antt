@@ -4,7 +4,7 @@ use Rattle.std.specs.Int.{w128}
 use Rattle.std.proofs.lemmas.Int.{to_z-of_z}
 use Rattle.std.proofs.Common.{arith}
 use Rattle.milp_builder.proofs.ShownLemmas.{shown_in}
-use Rattle.milp_builder.proofs.shown.shown.Goals as goal
+use Rattle.milp_builder.proofs.showing.shown.Goals as goal
 
 pub overflow_sub-result : goal.overflow_sub-result
 overflow_sub-result c = (shown_in c.args.road.now c.args.point.now c.args.kind c.in-Some.column c.in-Some.ensures.value).from_one

@@ -4,7 +4,7 @@ use Rattle.std.specs.Int.{w128}
 use Rattle.std.proofs.lemmas.Int.{to_z-of_z}
 use Rattle.road_types.specs.Numbered.{IsNumber}
 use Rattle.road_points.specs.Shown.{IsWholeAt}
-use Rattle.milp_builder.proofs.shown.part_removal.Goals as goal
+use Rattle.milp_builder.proofs.showing.part_removal.Goals as goal
 
 pub returns : goal.returns
 returns c = record {
