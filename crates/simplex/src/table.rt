@@ -1,5 +1,5 @@
 // A tableau in memory, and its exchanges.
-ghost use Rattle.std.specs.Prelude.{◌≡◌, ◌↔◌, ◌<◌, ◌≤◌, ℕ, ℤ, length, take, vec_capacity, IfOk, IfErr, IfSome, IsSome};
+ghost use Rattle.std.specs.Prelude.{◌≡◌, ◌↔◌, ◌<◌, ◌≤◌, ℕ, ℤ, length, take, IfOk, IfErr, IfSome, IsSome};
 ghost use Rattle.programs.specs.Programs.{row_count};
 ghost use Rattle.tableau.specs.Tableaux.{IsStart};
 ghost use Rattle.tableau.specs.Programs.{HasSlacks};
@@ -12,15 +12,16 @@ ghost use Rattle.simplex.specs.States.{KeepsLaws, State, tableau_of};
 ghost use Rattle.simplex.specs.Starts.{IsInRange};
 ghost use Rattle.simplex.specs.Refusals.{IsCellOf};
 
+use crate::cells::Cells;
 use crate::filling::{all_false, fill_numbers, slack_basis};
 use crate::lp::Lp;
 use crate::rows::exchange_rows;
-use numbers::{W128, Whole};
+use numbers::Whole;
 use programs::Milp;
 use std::alloc::{AllocError, Global};
 use std::marker::Model;
 use tableau::{Exchange, Op};
-use term_store::{Rows, Term};
+use term_store::Rows;
 
 /// A tableau of the dual simplex that good exchanges have reached, with numbers of the range of W.
 /// Contracts see its program, the terms of its rows, its basis and where columns stand.
@@ -30,7 +31,7 @@ pub struct Tableau<'a, W: Whole> {
     // The cost row, the rows of the program, and as many spare rows.
     pub(crate) lines: Rows<W>,
     marks: Vec<bool>,
-    cells: Vec<Term<W128>>,
+    cells: Cells,
     pub(crate) low: Vec<W>,
     pub(crate) high: Vec<W>,
     pub(crate) has_high: Vec<bool>,
@@ -39,7 +40,7 @@ pub struct Tableau<'a, W: Whole> {
 }
 
 impl<'a, W: Whole> Model for Tableau<'a, W> {
-    ghost use Rattle.std.specs.Prelude.{◌+◌, take, length, vec_capacity};
+    ghost use Rattle.std.specs.Prelude.{◌+◌, take, length};
     ghost use Rattle.programs.specs.Programs.{row_count};
     ghost use Rattle.simplex.specs.States.{State};
     ghost use Rattle.simplex.specs.inside.Kept.{IsKept};
@@ -64,7 +65,7 @@ impl<'a, W: Whole> Model for Tableau<'a, W> {
       has_high = t.has_high.items;
       basis = t.basis.items;
       at_high = t.at_high.items;
-    }) t.lines.rows (length t.marks.items) t.lines.width (vec_capacity t.cells) };
+    }) t.lines.rows (length t.marks.items) t.lines.width t.cells };
 }
 
 impl<'a, W: Whole> Tableau<'a, W> {
@@ -102,7 +103,7 @@ impl<'a, W: Whole> Tableau<'a, W> {
         let marks = all_false(alloc, count)?;
         let at_high = all_false(alloc, end)?;
         let basis = slack_basis(alloc, columns, rows)?;
-        let cells = Vec::with_capacity(alloc, end)?;
+        let cells = Cells::new(alloc, end)?;
         let mut lines = Rows::new(alloc, count + count, end)?;
         let mut low = Vec::new(alloc);
         let mut high = Vec::new(alloc);

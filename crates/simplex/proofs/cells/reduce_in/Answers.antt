@@ -5,7 +5,7 @@ use Rattle.sparse_rows.specs.Lines.{entry_of, IsLine}
 use Rattle.sparse_rows.proofs.LinesLemmas.{line_longer}
 use Rattle.simplex.proofs.Reducing.{same_cells, wide_same, wide_cell, wide_quotient, divisor_positive, reduced_divided, wide_within, entry_within}
 use Rattle.simplex.proofs.Outcomes.{ok_weaker, err_weaker}
-use Rattle.simplex.proofs.prepare.reduce_line.Goals as goal
+use Rattle.simplex.proofs.cells.reduce_in.Goals as goal
 
 pub returns-in-Err-clause-rows : goal.returns-in-Err-clause-rows
 returns-in-Err-clause-rows g c = inl refl

@@ -4,7 +4,7 @@ use Rattle.term_store.specs.declared.term.Term.{Term}
 use Rattle.sparse_rows.specs.Lines.{entry_of, IsLine}
 use Rattle.sparse_rows.proofs.LinesLemmas.{line_longer}
 use Rattle.simplex.proofs.Outcomes.{ok_weaker}
-use Rattle.simplex.proofs.prepare.write_line.Goals as goal
+use Rattle.simplex.proofs.cells.write_line.Goals as goal
 
 pub write_divided-requires-clause-line : goal.write_divided-requires-clause-line
 write_divided-requires-clause-line g c =
