@@ -1,6 +1,6 @@
 use Rattle.std.proofs.lemmas.Nat.Gcd.{IsGcd-from_zero, IsGcd-from_mod}
 use Rattle.numbers.proofs.DivisorsLemmas.{IsGcd-from_one_left, IsGcd-from_one_right, IsGcd-le_max}
-use Rattle.numbers.proofs.divisors.gcd_wide.Goals as goal
+use Rattle.numbers.proofs.divisors.magnitude_gcd.Goals as goal
 
 pub returns-then-a-eq1-clause-greatest : goal.returns-then-a-eq1-clause-greatest
 returns-then-a-eq1-clause-greatest c = IsGcd-from_one_left c.args.a c.args.b c.if-a-eq1.true
