@@ -3,7 +3,7 @@ use Rattle.std.proofs.Common.{◌≡◌, ℕ, ◌+◌, ◌*◌, ◌^◌, ◌<◌
 use Rattle.std.specs.Prelude.{Bool, ℤ, pos, neg_ℤ, ◌+ℤ◌, ◌-ℤ◌, ◌*ℤ◌, ◌≢◌, unsigned_abs}
 use Rattle.std.specs.Int.{IsGcd, ◌∣◌}
 use Rattle.std.proofs.lemmas.Int.{ints}
-use Rattle.algebra.proofs.Products.{int_mul_neg, int_neg_mul}
+use Rattle.algebra.proofs.Products.{int_mul_neg, int_neg_mul, int_neg_neg}
 use Rattle.numbers.specs.Divisors.{Divides, IsGreatestCommonDivisor}
 use Rattle.numbers.proofs.DivisorsLemmas.{dvd_of_divides, greatest_of_sizes}
 use Rattle.wide_products.specs.Naturals.{signed}
@@ -32,7 +32,8 @@ opposite_within true true a b h p q = cc
 
 pub signed_product : (s t : Bool) (a b r : ℕ) → r ≡ a * b → signed (not (beq s t)) r ≡ signed s a *ℤ signed t b
 signed_product false false a b r e = omega (arith, ints)
-signed_product true true a b r e = omega (arith, ints)
+signed_product true true a b r e =
+    ap pos e ∙ sym (int_neg_neg (pos a *ℤ pos b)) ∙ ap neg_ℤ (sym (int_mul_neg (pos a) (pos b))) ∙ sym (int_neg_mul (pos a) (neg_ℤ (pos b)))
 signed_product false true a b r e = ap (λ n. neg_ℤ (pos n)) e ∙ sym (int_mul_neg (pos a) (pos b))
 signed_product true false a b r e = ap (λ n. neg_ℤ (pos n)) e ∙ sym (int_neg_mul (pos a) (pos b))
 

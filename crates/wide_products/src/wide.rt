@@ -122,6 +122,7 @@ impl Wide {
     }
 
     /// The greatest common divisor, never negative; it is 0 of 0 and 0.
+    #[tactic(auto, using(crate::proofs::SignsLemmas::signed_greatest))]
     pub fn gcd(self, other: Wide) -> Wide
         ensures { IsGreatestCommonDivisor (whole_of self) (whole_of other) (whole_of result) }
     {
