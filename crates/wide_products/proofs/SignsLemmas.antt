@@ -1,14 +1,18 @@
 -- Signs and magnitudes.
-use Rattle.std.proofs.Common.{◌≡◌, ℕ, ◌+◌, ◌*◌, ◌^◌, ◌<◌, true, false, refl, arith, ap, subst, sym, ◌∙◌}
-use Rattle.std.specs.Prelude.{Bool, ℤ, pos, neg_ℤ, ◌+ℤ◌, ◌-ℤ◌, ◌*ℤ◌, ◌≢◌, unsigned_abs}
+use Rattle.std.proofs.Common.{◌≡◌, ℕ, suc, ◌+◌, ◌*◌, ◌/◌, ◌%◌, ◌^◌, ◌<◌, true, false, refl, arith, ap, subst, sym, ◌∙◌}
+use Rattle.std.specs.Prelude.{Bool, ℤ, pos, negsuc, neg_ℤ, ◌+ℤ◌, ◌-ℤ◌, ◌*ℤ◌, ◌≢◌, unsigned_abs}
 use Rattle.std.specs.Int.{IsGcd, ◌∣◌}
 use Rattle.std.proofs.lemmas.Int.{ints}
 use Rattle.algebra.proofs.Products.{int_mul_neg, int_neg_mul, int_neg_neg}
 use Rattle.numbers.specs.Divisors.{Divides, IsGreatestCommonDivisor}
 use Rattle.numbers.proofs.DivisorsLemmas.{dvd_of_divides, greatest_of_sizes}
-use Rattle.wide_products.specs.Naturals.{signed}
+use Rattle.wide_products.specs.Naturals.{signed, whole_of}
+use Rattle.wide_products.specs.declared.wide.Wide.{Wide}
 use Rattle.wide_products.proofs.NaturalsLemmas.{rest_zero}
 use mathlib.Core.Bool.{not, beq}
+
+halves : (n : ℕ) → n % 2 ^ 128 + n / 2 ^ 128 * 2 ^ 128 ≡ n
+halves n = omega arith
 
 pub abs_signed : (s : Bool) (n : ℕ) → unsigned_abs (signed s n) ≡ n
 abs_signed false n = refl
@@ -56,3 +60,8 @@ some_magnitude true d h = omega (arith, ints)
 
 pub signed_greatest : (s t : Bool) (a b g : ℕ) → IsGcd a b g → IsGreatestCommonDivisor (signed s a) (signed t b) (pos g)
 signed_greatest s t a b g h = greatest_of_sizes (signed s a) (signed t b) a b g (pos g) (sym (abs_signed s a)) (sym (abs_signed t b)) h refl
+
+-- each whole number is that of some value
+pub made : (z : ℤ) → (w : Wide) × (whole_of w ≡ z)
+made (pos n) = (record { negative = false; magnitude = record { high = n / 2 ^ 128; low = n % 2 ^ 128 } }, ap pos (halves n))
+made (negsuc n) = (record { negative = true; magnitude = record { high = suc n / 2 ^ 128; low = suc n % 2 ^ 128 } }, ap (λ m. neg_ℤ (pos m)) (halves (suc n)))

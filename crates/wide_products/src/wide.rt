@@ -1,5 +1,5 @@
 // Whole numbers of magnitude below 2^256.
-ghost use Rattle.std.specs.Prelude.{◌≡◌, ◌≢◌, ◌↔◌, ◌^◌, ◌<◌, pos, neg_ℤ, ◌+ℤ◌, ◌-ℤ◌, ◌*ℤ◌, IsSome, IfSome, unsigned_abs};
+ghost use Rattle.std.specs.Prelude.{◌≡◌, ◌≢◌, ◌↔◌, ◌^◌, ◌<◌, pos, neg_ℤ, ◌+ℤ◌, ◌-ℤ◌, ◌*ℤ◌, IsSome, IfSome, IsTrue, unsigned_abs};
 ghost use Rattle.std.specs.Ordering.{int_cmp};
 ghost use Rattle.numbers.specs.Divisors.{Divides, IsGreatestCommonDivisor};
 ghost use Rattle.wide_products.specs.Naturals.{natural_of, whole_of};
@@ -48,6 +48,13 @@ impl Wide {
         }
         let size = self.magnitude.low as i128;
         Some(if self.negative { -size } else { size })
+    }
+
+    /// Whether its magnitude is below 2^255.
+    pub fn has_255_bits(self) -> bool
+        ensures { IsTrue result ↔ (unsigned_abs (whole_of self) < 2 ^ 255) }
+    {
+        self.magnitude.high <= GREATEST
     }
 
     /// About the magnitude: the greatest number of 128 bits where it has more. Nothing is claimed of it.
@@ -122,7 +129,6 @@ impl Wide {
     }
 
     /// The greatest common divisor, never negative; it is 0 of 0 and 0.
-    #[tactic(auto, using(crate::proofs::SignsLemmas::signed_greatest))]
     pub fn gcd(self, other: Wide) -> Wide
         ensures { IsGreatestCommonDivisor (whole_of self) (whole_of other) (whole_of result) }
     {
@@ -145,5 +151,5 @@ impl Wide {
     }
 }
 
-/// The greatest magnitude of a narrow number.
+/// 2^127 - 1.
 const GREATEST: u128 = i128::MAX as u128;
