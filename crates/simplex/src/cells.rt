@@ -6,18 +6,19 @@ ghost use Rattle.tableau.specs.Exchanges.{IsDivided};
 ghost use Rattle.sparse_rows.specs.Lines.{IsLine, entry_of};
 ghost use Rattle.simplex.specs.inside.Rows.{AreSameBut, IsWideBy, reduced_by};
 
-use numbers::{W128, Whole};
+use numbers::{Narrow, W128, Whole};
 use sparse_rows::{combine, common_divisor, factors, widened, write_divided};
 use std::alloc::{AllocError, Global};
 use std::marker::Model;
 use term_store::{Rows, Term};
+use wide_whole::W256;
 
 /// Room for the terms of a reduced row before they are divided: in 128 bits, and in twice as many where those don't hold a product.
 /// Contracts see the number of columns for which there is room.
 #[derive(Drop)]
 pub(crate) struct Cells {
     narrow: Vec<Term<W128>>,
-    wide: Vec<Term<W128>>,
+    wide: Vec<Term<W256>>,
 }
 
 impl Model for Cells {
@@ -42,7 +43,7 @@ impl Cells {
 
     /// Writes row `k` reduced by row `row`, whose entries at one column are these, into row `spare`, divided by the greatest
     /// common divisor of its entries. `Err` with the column of an entry that is out of range.
-    pub(crate) fn reduce_line<W: Whole>(
+    pub(crate) fn reduce_line<W: Narrow>(
         &mut self,
         lines: &mut Rows<W>,
         k: usize,
@@ -79,7 +80,7 @@ impl Cells {
 
 /// Writes row `k` reduced by row `row`, whose entries at one column are these, into row `spare`, divided by the greatest
 /// common divisor of its entries; `cells` gets the terms before that. `Err` with the column of an entry that is out of range.
-fn reduce_in<W: Whole, T: Whole>(
+fn reduce_in<W: Narrow, T: Whole>(
     lines: &mut Rows<W>,
     k: usize,
     row: usize,
@@ -125,7 +126,7 @@ fn reduce_in<W: Whole, T: Whole>(
 
 /// Puts the row of these terms, each divided by `divisor`, in place of row `spare`. `Err` with the column of a quotient that
 /// is out of range.
-fn write_line<W: Whole, T: Whole>(
+fn write_line<W: Narrow, T: Whole>(
     lines: &mut Rows<W>,
     spare: usize,
     terms: &[Term<T>],

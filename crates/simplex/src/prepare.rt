@@ -4,13 +4,13 @@ ghost use Rattle.sparse_rows.specs.Lines.{IsLine, entry_of};
 ghost use Rattle.simplex.specs.inside.Rows.{AreSameBut, IsPrepared, IsWideRow, LeavesEntries};
 
 use crate::cells::Cells;
-use numbers::Whole;
+use numbers::Narrow;
 use sparse_rows::{entry, is_zero};
 use term_store::Rows;
 
 /// Writes what becomes of each row in the exchange of row `row` and column `col`, whose entry is `pivot`, into the spare rows
 /// behind them, and marks those that change. `Err` with the row and the column of an entry that is out of range.
-pub(crate) fn prepare<W: Whole>(
+pub(crate) fn prepare<W: Narrow>(
     lines: &mut Rows<W>,
     marks: &mut [bool],
     row: usize,
@@ -49,7 +49,7 @@ pub(crate) fn prepare<W: Whole>(
 
 /// Writes what becomes of row `k` in the exchange of row `row` and column `col`, whose entry is `pivot`, into row `spare`,
 /// where it changes, and says whether it does. `Err` with the column of an entry that is out of range.
-fn prepare_line<W: Whole>(
+fn prepare_line<W: Narrow>(
     lines: &mut Rows<W>,
     k: usize,
     row: usize,

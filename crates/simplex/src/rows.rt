@@ -7,13 +7,13 @@ use crate::cells::Cells;
 use crate::changing::{restand, stand, swap_in};
 use crate::prepare::prepare;
 use crate::signs::breaks_upper;
-use numbers::Whole;
+use numbers::Narrow;
 use sparse_rows::entry;
 use term_store::Rows;
 
 /// Exchanges the basic column of row `row` for column `col`. `Err` with the row and the column of an entry that is out of
 /// range; all is then as before.
-pub(crate) fn exchange_rows<W: Whole>(
+pub(crate) fn exchange_rows<W: Narrow>(
     lines: &mut Rows<W>,
     marks: &mut [bool],
     cells: &mut Cells,

@@ -16,7 +16,7 @@ use crate::cells::Cells;
 use crate::filling::{all_false, fill_numbers, slack_basis};
 use crate::lp::Lp;
 use crate::rows::exchange_rows;
-use numbers::Whole;
+use numbers::Narrow;
 use programs::Milp;
 use std::alloc::{AllocError, Global};
 use std::marker::Model;
@@ -26,7 +26,7 @@ use term_store::Rows;
 /// A tableau of the dual simplex that good exchanges have reached, with numbers of the range of W.
 /// Contracts see its program, the terms of its rows, its basis and where columns stand.
 #[derive(Drop)]
-pub struct Tableau<'a, W: Whole> {
+pub struct Tableau<'a, W: Narrow> {
     pub(crate) milp: &'a Milp,
     // The cost row, the rows of the program, and as many spare rows.
     pub(crate) lines: Rows<W>,
@@ -39,7 +39,7 @@ pub struct Tableau<'a, W: Whole> {
     pub(crate) at_high: Vec<bool>,
 }
 
-impl<'a, W: Whole> Model for Tableau<'a, W> {
+impl<'a, W: Narrow> Model for Tableau<'a, W> {
     ghost use Rattle.std.specs.Prelude.{◌+◌, take, length};
     ghost use Rattle.programs.specs.Programs.{row_count};
     ghost use Rattle.simplex.specs.States.{State};
@@ -68,7 +68,7 @@ impl<'a, W: Whole> Model for Tableau<'a, W> {
     }) t.lines.rows (length t.marks.items) t.lines.width t.cells };
 }
 
-impl<'a, W: Whole> Tableau<'a, W> {
+impl<'a, W: Narrow> Tableau<'a, W> {
     /// The tableau at the start, or `None` exactly where an entry, cost or bound of the program is out of W's range.
     /// `AllocError` where its memory can't be had.
     pub fn start(alloc: Global, lp: &Lp<'a>) -> Result<Option<Tableau<'a, W>>, AllocError>
