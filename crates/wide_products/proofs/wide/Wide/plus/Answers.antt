@@ -1,6 +1,6 @@
-use Rattle.std.proofs.Common.{◌≡◌, ◌^◌, ◌<◌, refl, arith, rules, ap, sym, ◌∙◌, subst, true}
-use Rattle.std.specs.Prelude.{ℕ, ◌+ℤ◌, unsigned_abs}
-use Rattle.wide_products.specs.Naturals.{natural_of, whole_of}
+use Rattle.std.proofs.Common.{◌^◌, ◌<◌, refl, rules, ap, sym, ◌∙◌, subst}
+use Rattle.std.specs.Prelude.{ℕ, unsigned_abs}
+use Rattle.wide_products.specs.Naturals.{natural_of}
 use Rattle.wide_products.proofs.SignsLemmas.{abs_signed, signed_sum, opposite_within}
 use Rattle.wide_products.proofs.wide.Wide.plus.Goals as goal
 

@@ -1,4 +1,4 @@
-use Rattle.std.proofs.Common.{◌≡◌, ◌^◌, ◌<◌, refl, arith, rules, ap, sym, ◌∙◌, subst, true}
+use Rattle.std.proofs.Common.{◌^◌, ◌<◌, refl, rules, ap, sym, ◌∙◌, subst}
 use Rattle.std.specs.Prelude.{ℕ, unsigned_abs}
 use Rattle.wide_products.specs.Naturals.{natural_of}
 use Rattle.wide_products.proofs.SignsLemmas.{abs_signed, signed_product}
