@@ -25,6 +25,7 @@ pub mod LowestKeys
 pub mod BudgetLemmas
 pub mod NextLemmas
 pub mod AskingLemmas
+pub mod FreeLemmas
 pub mod EndLemmas
 pub mod SpelledLaw
 pub mod TextLengths

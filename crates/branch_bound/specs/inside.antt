@@ -5,6 +5,7 @@ pub mod Solved
 pub mod Searches
 pub mod Proving
 pub mod Splitting
+pub mod FreeSplits
 pub mod Solving
 pub mod Least
 pub mod Depths

@@ -106,7 +106,7 @@ fn breakpoint_at(road: &Road, range: &BoxRange, number: usize) -> i64
 
 /// The range of offsets of a section.
 #[tactic(auto, using(crate::proofs::AskingLemmas::range_at))]
-fn height_range(range: &BoxRange, number: usize) -> (i64, i64)
+pub(crate) fn height_range(range: &BoxRange, number: usize) -> (i64, i64)
     requires { IsNumber number (length range.now.heights) }
     ensures { result ≡ height_range range.now.heights number }
 {

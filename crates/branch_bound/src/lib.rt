@@ -5,6 +5,7 @@
 mod asking;
 mod best;
 mod finding;
+mod free_splits;
 mod growing;
 mod notes;
 mod proving;

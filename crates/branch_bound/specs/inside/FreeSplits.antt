@@ -1,0 +1,11 @@
+-- Splits of a box that no point asks for.
+use Rattle.std.specs.Prelude.{Option, Some, None}
+use Rattle.road_types.specs.declared.road.Road.{Road}
+use Rattle.milp_builder.specs.Parts.{SplitsOffsets}
+use Rattle.milp_builder.specs.declared.boxes.BoxRange.{BoxRange}
+use Rattle.branch_bound.specs.declared.free_splits.Widest.{Widest}
+
+-- none, or a section at one of whose breakpoints the box can be split
+abbrev pub IsWidest : Road → BoxRange → Option Widest → Type 0
+IsWidest road box None = Unit {0}
+IsWidest road box (Some found) = SplitsOffsets road box found.section found.at
