@@ -1,6 +1,6 @@
 -- The leaf of a solved box, by the end of its simplex.
-use Rattle.std.proofs.Common.{◌≡◌, ℕ, ◌-◌, ◌≤◌, ◌<◌, ◌^◌, Option, Some, None, List, [], ◌∷◌, length, refl, sym, ap, subst, arith, inr, ⊎_elim, ◌∙◌}
-use Rattle.std.specs.Prelude.{ℤ, ◌*ℤ◌, unsigned_abs}
+use Rattle.std.proofs.Common.{◌≡◌, ℕ, ◌-◌, ◌≤◌, ◌<◌, ◌^◌, Option, Some, None, List, [], ◌∷◌, length, refl, sym, ap, subst, arith, inl, inr, ⊎_elim, ◌∙◌}
+use Rattle.std.specs.Prelude.{ℤ, ◌*ℤ◌, unsigned_abs, IfSome}
 use Rattle.std.specs.List.{All}
 use Rattle.std.proofs.lemmas.List.Elements.{All-weaker}
 use Rattle.algebra.proofs.ListsLemmas.{length-list_to}
@@ -124,9 +124,15 @@ stop_good road cost box scale mults note proved leaf p s h =
     leaf_from road cost box leaf (waiting_leaf waits) w.1.1 tt good)
     s
 
-pub stop_waits : (road : Road) (box : BoxRange) (proved : Proved) (note : NodeNote) (split : Split) (leaf : Grown) → IsSplitOf road box split
-    → leaf ≡ waiting_leaf (record { range = box; split = split; reason = Stop note; proved = proved }) → IsStopOf road box proved note leaf
-stop_waits road box proved note split leaf h e = inr (split, (h, e))
+pub stop_waits : (box : BoxRange) (proved : Proved) (note : NodeNote) (found : Option Split) (split : Split) (leaf : Grown) → found ≡ Some split
+    → leaf ≡ waiting_leaf (record { range = box; split = split; reason = Stop note; proved = proved })
+    → (road : Road) → IfSome found (λ s. IsSplitOf road box s) → IsStopOf road box proved note leaf
+stop_waits box proved note found split leaf f e road h =
+    inr (split, (subst (λ (o : Option Split). IfSome o (λ s. IsSplitOf road box s)) f h, e))
+
+pub stop_stays : (box : BoxRange) (proved : Proved) (note : NodeNote) (found : Option Split) (leaf : Grown) → leaf ≡ stopped_leaf proved note
+    → (road : Road) → IfSome found (λ s. IsSplitOf road box s) → IsStopOf road box proved note leaf
+stop_stays box proved note found leaf e road h = inl e
 
 pub dead_good : (road : Road) (cost : Option Fraction) (box : BoxRange) (leaf : Work) → IsDeadLeaf (box_program road box) leaf → IsLeafOfBox road cost box leaf
 dead_good road cost box leaf h =

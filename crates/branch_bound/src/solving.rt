@@ -1,5 +1,5 @@
 // The linear program of a box, and the leaf that its end gives.
-ghost use Rattle.std.specs.Prelude.{◌≡◌, ◌<◌, ◌≤◌, ◌^◌, ◌-◌, ◌≤ℤ◌, None, IfOk, pos, unsigned_abs};
+ghost use Rattle.std.specs.Prelude.{◌≡◌, ◌<◌, ◌≤◌, ◌^◌, ◌-◌, ◌≤ℤ◌, None, IfOk, IfSome, pos, unsigned_abs};
 ghost use Rattle.std.specs.Int.{int_max};
 ghost use Rattle.std.specs.List.{All};
 ghost use Rattle.algebra.specs.Scale.{IsScale};
@@ -7,9 +7,11 @@ ghost use Rattle.numbers.specs.Fractions.{IsLowest, HasValue};
 ghost use Rattle.programs.specs.Points.{IsPoint};
 ghost use Rattle.safe_bounds.specs.Values.{AreMultipliers};
 ghost use Rattle.road_types.specs.Faults.{road_fault};
+ghost use Rattle.road_types.specs.declared.road.Road.{Road};
 ghost use Rattle.plan_rules.specs.Rules.{IsAdmissible};
 ghost use Rattle.plan_rules.specs.Costs.{cost_of};
 ghost use Rattle.milp_builder.specs.Boxes.{IsBoxOf};
+ghost use Rattle.milp_builder.specs.Parts.{IsSplitOf};
 ghost use Rattle.milp_builder.specs.BoxPrograms.{box_program};
 ghost use Rattle.best_first.specs.Keys.{IsKey};
 ghost use Rattle.simplex.specs.Ends.{IsEnd, IsDead, IsOptimum, HasNumbersWithin, AreWithin};
@@ -158,18 +160,17 @@ fn stopped_leaf(
     requires proving { AreProving milp.now scale mults.items }
     ensures { IfOk result (λ leaf. IsStoppedLeaf road.now range milp.now scale mults.items note leaf) }
 {
+    let split = free_split(road, &range);
     let proved = prove(alloc, milp, scale, mults)?;
-    Ok(stop_of(road, range, proved, note))
+    Ok(stop_of(split, range, proved, note))
 }
 
 /// The leaf of a stop: it waits to be split where its box has a split.
-#[tactic(auto, using(crate::proofs::SolvingLemmas::stop_waits))]
-fn stop_of(road: &Road, range: BoxRange, proved: Proved, note: NodeNote) -> Work
-    requires accepted { road_fault road.now ≡ None }
-    requires fits { IsBoxOf road.now range }
-    ensures { IsStopOf road.now range proved note (grown_of result) }
+#[tactic(auto, using(crate::proofs::SolvingLemmas::stop_waits, crate::proofs::SolvingLemmas::stop_stays))]
+fn stop_of(split: Option<Split>, range: BoxRange, proved: Proved, note: NodeNote) -> Work
+    ensures { (road : Road) → IfSome split (λ s. IsSplitOf road range s) → IsStopOf road range proved note (grown_of result) }
 {
-    match free_split(road, &range) {
+    match split {
         Some(split) => waiting_leaf(range, split, Reason::Stop { note }, proved),
         None => ended_leaf(proved, note),
     }
@@ -317,7 +318,8 @@ fn past_plans(road: &Road, range: BoxRange, optimum: Optimum, proved: Proved) ->
 {
     let den = optimum.den;
     if den > GREATEST_COMPARABLE {
-        return stop_of(road, range, proved, limit_note(optimum, den));
+        let split = free_split(road, &range);
+        return stop_of(split, range, proved, limit_note(optimum, den));
     }
     limit_leaf(optimum, proved, den)
 }
