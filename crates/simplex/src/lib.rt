@@ -11,6 +11,7 @@ mod lp;
 mod lp_end;
 mod numbers_of;
 mod prepare;
+mod rough;
 mod rows;
 mod running;
 mod selecting;
