@@ -1,108 +1,273 @@
 // Splits of a box whose simplex stopped, so that no optimum asks for one.
-ghost use Rattle.std.specs.Prelude.{◌≡◌, ◌⊎◌, None, IfSome, length};
+ghost use Rattle.std.specs.Prelude.{◌≡◌, ◌⊎◌, ◌≤◌, ◌<◌, None, IfSome, length, pos, ◌≤ℤ◌};
 ghost use Rattle.road_types.specs.Faults.{road_fault};
 ghost use Rattle.road_types.specs.Numbered.{IsNumber};
 ghost use Rattle.road_types.specs.Ranges.{height_range};
 ghost use Rattle.road_types.specs.Road.{section_count, block_count};
-ghost use Rattle.road_types.specs.declared.road.Road.{Road};
 ghost use Rattle.milp_builder.specs.Boxes.{IsBoxOf, opening_range};
 ghost use Rattle.milp_builder.specs.Parts.{IsSplitOf};
-ghost use Rattle.milp_builder.specs.declared.boxes.BoxRange.{BoxRange};
-ghost use Rattle.branch_bound.specs.inside.FreeSplits.{IsWidest};
+ghost use Rattle.branch_bound.specs.inside.FreeSplits.{IsFreeHeight};
 
 use crate::asking::height_range;
 use crate::splitting::inner_breakpoint;
 use milp_builder::{BoxRange, Split};
-use road_types::{Road, Section, Slab};
+use road_types::{Column, Road, Section, Slab, column_of};
 
-/// A section with a breakpoint strictly inside its range of offsets, and by how much its volume can still differ, in litres.
+/// About where a point stands: for each column a number over the unit. Nothing is known of it, and it may have no numbers.
 #[derive(Clone, Copy)]
-pub struct Widest {
-    pub section: usize,
-    pub at: i64,
-    pub width: i128,
+pub struct Rough<'a> {
+    pub unit: i128,
+    pub numbers: &'a [i128],
 }
 
-/// A split of a box: that of the section whose volume can still differ most, and else that of the first block whose opening isn't
-/// decided.
-pub(crate) fn free_split(road: &Road, range: &BoxRange) -> Option<Split>
+/// The split of a section's heights at a breakpoint strictly inside its range of offsets, and its score.
+#[derive(Clone, Copy)]
+pub struct Candidate {
+    pub section: usize,
+    pub at: i64,
+    pub score: i128,
+}
+
+/// A split of a box: one for which a rough point asks; and else that of the section whose volume can still differ most; and else
+/// that of the first block whose opening isn't decided.
+pub(crate) fn free_split(road: &Road, range: &BoxRange, rough: Rough<'_>) -> Option<Split>
+    requires accepted { road_fault road.now ≡ None }
+    requires fits { IsBoxOf road.now range.now }
+    requires unit { pos 1 ≤ℤ rough.unit }
+    ensures { IfSome result (λ split. IsSplitOf road.now range.now split) }
+{
+    match rough_split(road, range, rough) {
+        Some(split) => Some(split),
+        None => box_split(road, range),
+    }
+}
+
+/// The split for which a rough point asks: of the first block that is opened in part, and else of a section whose volume is another
+/// than that of its offset.
+fn rough_split(road: &Road, range: &BoxRange, rough: Rough<'_>) -> Option<Split>
+    requires accepted { road_fault road.now ≡ None }
+    requires fits { IsBoxOf road.now range.now }
+    requires unit { pos 1 ≤ℤ rough.unit }
+    ensures { IfSome result (λ split. IsSplitOf road.now range.now split) }
+{
+    if rough.numbers.is_empty() {
+        return None;
+    }
+    match part_opening(road, range, rough) {
+        Some(split) => Some(split),
+        None => height_of(rough_height(road, range, rough)),
+    }
+}
+
+/// The split of a section's heights, where there is one.
+fn height_of(best: Option<Candidate>) -> Option<Split>
+    ensures { (road : Road) (box : BoxRange) → IsFreeHeight road box best → IfSome result (λ split. IsSplitOf road box split) }
+{
+    match best {
+        Some(best) => Some(Split::Height {
+            section: best.section,
+            at: best.at,
+        }),
+        None => None,
+    }
+}
+
+/// The split of the first block that is opened in part, at the first such stage.
+#[tactic(auto, using(crate::proofs::FreeLemmas::opening_splits, crate::proofs::FreeLemmas::opens_number))]
+fn part_opening(road: &Road, range: &BoxRange, rough: Rough<'_>) -> Option<Split>
     requires accepted { road_fault road.now ≡ None }
     requires fits { IsBoxOf road.now range.now }
     ensures { IfSome result (λ split. IsSplitOf road.now range.now split) }
 {
-    match widest(road, range) {
-        Some(found) => Some(Split::Height {
-            section: found.section,
-            at: found.at,
+    for before in 0..road.blocks.len() {
+        let opens = opening_range(range, before + 1);
+        if let Some(stage) = part_stage(road, rough, opens, before + 1) {
+            return Some(Split::Removal {
+                block: before + 1,
+                stage,
+            });
+        }
+    }
+    None
+}
+
+/// The first stage of a range of openings, but for its last, by which a block is opened in part.
+fn part_stage(road: &Road, rough: Rough<'_>, opens: (u8, u8), block: usize) -> Option<usize>
+    requires accepted { road_fault road.now ≡ None }
+    ensures { IfSome result (λ stage. (opens.0 ≤ stage) × (stage < opens.1)) }
+{
+    for stage in usize::from(opens.0)..usize::from(opens.1) {
+        let opened = number_of(road, rough, Column::Opened { block, stage });
+        if 0 < opened && opened < rough.unit {
+            return Some(stage);
+        }
+    }
+    None
+}
+
+/// The best split of heights of the sections whose volume is another than that of their offset.
+#[tactic(auto, using(crate::proofs::FreeLemmas::one_of_both))]
+fn rough_height(road: &Road, range: &BoxRange, rough: Rough<'_>) -> Option<Candidate>
+    requires accepted { road_fault road.now ≡ None }
+    requires fits { IsBoxOf road.now range.now }
+    requires unit { pos 1 ≤ℤ rough.unit }
+    ensures { IsFreeHeight road.now range.now result }
+{
+    let mut best = None;
+    for before in 0..road.sections.len() {
+        best = best_of(best, rough_height_at(road, range, rough, before + 1));
+    }
+    best
+}
+
+/// The split of a section's heights, where its volume is another than that of its offset, rounded to litres.
+#[tactic(auto, using(crate::proofs::FreeLemmas::tables_of_section, crate::proofs::FreeLemmas::range_number, crate::proofs::FreeLemmas::section_splits))]
+fn rough_height_at(road: &Road, range: &BoxRange, rough: Rough<'_>, number: usize) -> Option<Candidate>
+    requires accepted { road_fault road.now ≡ None }
+    requires fits { IsBoxOf road.now range.now }
+    requires unit { pos 1 ≤ℤ rough.unit }
+    requires number { IsNumber number (section_count road.now) }
+    ensures { IsFreeHeight road.now range.now result }
+{
+    let section = road.section(number);
+    let heights = height_range(range, number);
+    let missed = missed_volume(road, rough, number, heights);
+    if missed <= 1 {
+        return None;
+    }
+    match inner_breakpoint(section, heights) {
+        Some(at) => Some(Candidate {
+            section: number,
+            at,
+            score: missed,
         }),
+        None => None,
+    }
+}
+
+/// By how much a section's volume differs from that of its offset, brought into the range, in litres.
+fn missed_volume(road: &Road, rough: Rough<'_>, number: usize, range: (i64, i64)) -> i128
+    requires accepted { road_fault road.now ≡ None }
+    requires unit { pos 1 ≤ℤ rough.unit }
+    requires number { IsNumber number (section_count road.now) }
+{
+    let offset = number_of(road, rough, Column::Offset { section: number }).div_euclid(rough.unit);
+    let offset = offset.max(i128::from(range.0)).min(i128::from(range.1));
+    let volume = moved_volume(road, rough, number).div_euclid(rough.unit);
+    distance(volume, volume_at(road.section(number), offset))
+}
+
+/// How far apart two numbers are.
+fn distance(a: i128, b: i128) -> i128 {
+    a.saturating_sub(b).max(b.saturating_sub(a))
+}
+
+/// What a section is filled in all stages, less what it is cut, over the unit.
+fn moved_volume(road: &Road, rough: Rough<'_>, section: usize) -> i128
+    requires accepted { road_fault road.now ≡ None }
+{
+    let mut volume = 0i128;
+    for before in 0..road.stages {
+        let stage = before + 1;
+        let filled = number_of(road, rough, Column::Fill { section, stage });
+        let cut = number_of(road, rough, Column::Cut { section, stage });
+        volume = volume.saturating_add(filled.saturating_sub(cut));
+    }
+    volume
+}
+
+/// The rough number of a column, 0 where there is none.
+#[tactic(auto, using(crate::proofs::FreeLemmas::counted_of))]
+fn number_of(road: &Road, rough: Rough<'_>, kind: Column) -> i128
+    requires accepted { road_fault road.now ≡ None }
+{
+    match column_of(road, kind) {
+        Some(column) => number_at(rough.numbers, column),
+        None => 0,
+    }
+}
+
+/// The number at a place, counted from 1; 0 where there is none.
+fn number_at(numbers: &[i128], place: usize) -> i128 {
+    if 0 < place && place <= numbers.len() {
+        return numbers[place - 1];
+    }
+    0
+}
+
+/// A split of a box, chosen by the box alone.
+fn box_split(road: &Road, range: &BoxRange) -> Option<Split>
+    requires accepted { road_fault road.now ≡ None }
+    requires fits { IsBoxOf road.now range.now }
+    ensures { IfSome result (λ split. IsSplitOf road.now range.now split) }
+{
+    match height_of(widest(road, range)) {
+        Some(split) => Some(split),
         None => opening_split(road, range),
     }
 }
 
-/// The section whose volume can still differ most.
-#[tactic(auto, using(crate::proofs::FreeLemmas::wider_is))]
-fn widest(road: &Road, range: &BoxRange) -> Option<Widest>
+/// The split of the section whose volume can still differ most.
+#[tactic(auto, using(crate::proofs::FreeLemmas::one_of_both))]
+fn widest(road: &Road, range: &BoxRange) -> Option<Candidate>
     requires accepted { road_fault road.now ≡ None }
     requires fits { IsBoxOf road.now range.now }
-    ensures { IsWidest road.now range.now result }
+    ensures { IsFreeHeight road.now range.now result }
 {
-    let mut widest = None;
+    let mut best = None;
     for before in 0..road.sections.len() {
-        widest = wider_of(widest, section_at(road, range, before + 1));
+        best = best_of(best, wide_height_at(road, range, before + 1));
     }
-    widest
+    best
 }
 
-/// The one whose volume can differ more, the first where both can as much.
-fn wider_of(first: Option<Widest>, second: Option<Widest>) -> Option<Widest>
+/// The better of two, the first where both score alike.
+fn best_of(first: Option<Candidate>, second: Option<Candidate>) -> Option<Candidate>
     ensures { (result ≡ first) ⊎ (result ≡ second) }
 {
     match (first, second) {
-        (Some(one), Some(two)) => Some(if two.width > one.width { two } else { one }),
+        (Some(one), Some(two)) => Some(if two.score > one.score { two } else { one }),
         (Some(one), None) => Some(one),
         (None, second) => second,
     }
 }
 
-/// A section at a breakpoint strictly inside its range of offsets, where there is one.
+/// The split of a section's heights, scored by how much its volume can still differ.
 #[tactic(auto, using(crate::proofs::FreeLemmas::tables_of_section, crate::proofs::FreeLemmas::range_number, crate::proofs::FreeLemmas::section_splits))]
-fn section_at(road: &Road, range: &BoxRange, number: usize) -> Option<Widest>
+fn wide_height_at(road: &Road, range: &BoxRange, number: usize) -> Option<Candidate>
     requires accepted { road_fault road.now ≡ None }
     requires fits { IsBoxOf road.now range.now }
     requires number { IsNumber number (section_count road.now) }
-    ensures { IsWidest road.now range.now result }
+    ensures { IsFreeHeight road.now range.now result }
 {
     let section = road.section(number);
     let heights = height_range(range, number);
     match inner_breakpoint(section, heights) {
-        Some(at) => Some(Widest {
+        Some(at) => Some(Candidate {
             section: number,
             at,
-            width: width_of(section, heights),
+            score: width_of(section, heights),
         }),
         None => None,
     }
 }
 
 /// By how much a section's volume differs between the ends of a range of offsets, in litres.
-fn width_of(section: &Section, range: (i64, i64)) -> i128
-{
+fn width_of(section: &Section, range: (i64, i64)) -> i128 {
     volume_at(section, i128::from(range.1)).saturating_sub(volume_at(section, i128::from(range.0)))
 }
 
 /// The volume that fills a section up to an offset, less what is cut where the offset is below the ground; in litres.
-fn volume_at(section: &Section, offset: i128) -> i128
-{
+fn volume_at(section: &Section, offset: i128) -> i128 {
     let filled = volume_to(section.fill.as_slice(), offset);
-    let cut = volume_to(section.cut.as_slice(), 0_i128.saturating_sub(offset));
+    let cut = volume_to(section.cut.as_slice(), 0i128.saturating_sub(offset));
     filled.saturating_sub(cut)
 }
 
 /// The volume of slabs down to a depth, in litres.
-fn volume_to(slabs: &[Slab], depth: i128) -> i128
-{
+fn volume_to(slabs: &[Slab], depth: i128) -> i128 {
     let mut left = depth.max(0);
-    let mut volume: i128 = 0;
+    let mut volume = 0i128;
     for slab in slabs {
         let here = left.min(i128::from(slab.thick));
         volume = volume.saturating_add(here.saturating_mul(i128::from(slab.area)));

@@ -25,7 +25,7 @@ ghost use Rattle.branch_bound.specs.declared.notes.NodeNote.TheVariants.{Limit};
 
 use crate::asking::asked_split;
 use crate::best::Best;
-use crate::free_splits::free_split;
+use crate::free_splits::{Rough, free_split};
 use crate::notes::NodeNote;
 use crate::proving::{greatest_magnitude, narrowed, past_limit, prove, value_on, written};
 use crate::volumes::GREATEST_COMPARABLE;
@@ -40,6 +40,18 @@ use road_types::{Listed, Road};
 use simplex::{Lp, LpEnd, solve_either};
 use std::alloc::{AllocError, Global};
 use tableau::Exchange;
+
+/// The parts of a unit in which a stop tells about what each column is.
+const ROUGH_UNIT: i128 = 1_024;
+
+/// A stop of the simplex: its note, a scale and a multiplier for each row, and about what each column is.
+#[derive(Drop)]
+pub struct Stop {
+    pub note: NodeNote,
+    pub scale: i128,
+    pub mults: Vec<i128>,
+    pub rough: Vec<i128>,
+}
 
 /// Solves a box: its leaf. A plan that is found and cheaper is the best one then.
 pub(crate) fn solve_box(
@@ -126,11 +138,16 @@ fn solve_end(
             mults,
             rough,
         } => {
-            drop(rough);
             let note = NodeNote::Pivots {
                 trail: Listed::new(trail),
             };
-            stopped_leaf(alloc, road, range, milp, note, scale, mults)
+            let stop = Stop {
+                note,
+                scale,
+                mults,
+                rough,
+            };
+            stopped_leaf(alloc, road, range, milp, stop)
         }
         LpEnd::Wide {
             trail,
@@ -139,12 +156,17 @@ fn solve_end(
             mults,
             rough,
         } => {
-            drop(rough);
             let note = NodeNote::Wide {
                 trail: Listed::new(trail),
                 op,
             };
-            stopped_leaf(alloc, road, range, milp, note, scale, mults)
+            let stop = Stop {
+                note,
+                scale,
+                mults,
+                rough,
+            };
+            stopped_leaf(alloc, road, range, milp, stop)
         }
     }
 }
@@ -155,18 +177,16 @@ fn stopped_leaf(
     road: &Road,
     range: BoxRange,
     milp: &Milp,
-    note: NodeNote,
-    scale: i128,
-    mults: Vec<i128>,
+    stop: Stop,
 ) -> Result<Work, AllocError>
     requires accepted { road_fault road.now ≡ None }
     requires fits { IsBoxOf road.now range }
-    requires proving { AreProving milp.now scale mults.items }
-    ensures { IfOk result (λ leaf. IsStoppedLeaf road.now range milp.now scale mults.items note leaf) }
+    requires proving { AreProving milp.now stop.scale stop.mults.items }
+    ensures { IfOk result (λ leaf. IsStoppedLeaf road.now range milp.now stop.scale stop.mults.items stop.note leaf) }
 {
-    let split = free_split(road, &range);
-    let proved = prove(alloc, milp, scale, mults)?;
-    Ok(stop_of(split, range, proved, note))
+    let split = split_at(road, &range, ROUGH_UNIT, stop.rough.as_slice());
+    let proved = prove(alloc, milp, stop.scale, stop.mults)?;
+    Ok(stop_of(split, range, proved, stop.note))
 }
 
 /// The leaf of a stop: it waits to be split where its box has a split.
@@ -215,7 +235,13 @@ fn empty_leaf(
         trail: Listed::new(trail),
         value: greatest,
     };
-    stopped_leaf(alloc, road, range, milp, note, scale, mults)
+    let stop = Stop {
+        note,
+        scale,
+        mults,
+        rough: Vec::new(alloc),
+    };
+    stopped_leaf(alloc, road, range, milp, stop)
 }
 
 /// Multipliers as they are written down, where their dead value is above 0.
@@ -322,10 +348,24 @@ fn past_plans(road: &Road, range: BoxRange, optimum: Optimum, proved: Proved) ->
 {
     let den = optimum.den;
     if den > GREATEST_COMPARABLE {
-        let split = free_split(road, &range);
+        let split = split_at(road, &range, den, optimum.point.as_slice());
         return stop_of(split, range, proved, limit_note(optimum, den));
     }
     limit_leaf(optimum, proved, den)
+}
+
+/// A split of a box, chosen by about where a point stands.
+fn split_at(road: &Road, range: &BoxRange, den: i128, point: &[i128]) -> Option<Split>
+    requires accepted { road_fault road.now ≡ None }
+    requires fits { IsBoxOf road.now range.now }
+    requires den { pos 1 ≤ℤ den }
+    ensures { IfSome result (λ split. IsSplitOf road.now range.now split) }
+{
+    let rough = Rough {
+        unit: den,
+        numbers: point,
+    };
+    free_split(road, range, rough)
 }
 
 /// A leaf that waits to be split.
