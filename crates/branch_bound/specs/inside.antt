@@ -8,5 +8,4 @@ pub mod Splitting
 pub mod Solving
 pub mod Least
 pub mod Depths
-pub mod Comparing
 pub mod Asking

@@ -8,10 +8,10 @@ mod finding;
 mod growing;
 mod notes;
 mod proving;
+mod scores;
 mod settling;
 mod solving;
 mod splitting;
-mod volumes;
 mod walks;
 mod work;
 
