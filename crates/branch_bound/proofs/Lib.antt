@@ -11,7 +11,6 @@ pub mod SearchLemmas
 pub mod SearchedLaw
 pub mod LeastLemmas
 pub mod ProvingLemmas
-pub mod ComparingLemmas
 pub mod SplittingLemmas
 pub mod SolvingLemmas
 pub mod EmptyLemmas

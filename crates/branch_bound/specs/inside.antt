@@ -9,5 +9,4 @@ pub mod FreeSplits
 pub mod Solving
 pub mod Least
 pub mod Depths
-pub mod Comparing
 pub mod Asking

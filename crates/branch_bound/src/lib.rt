@@ -9,10 +9,10 @@ mod free_splits;
 mod growing;
 mod notes;
 mod proving;
+mod scores;
 mod settling;
 mod solving;
 mod splitting;
-mod volumes;
 mod walks;
 mod work;
 
