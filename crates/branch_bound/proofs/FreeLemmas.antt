@@ -15,7 +15,7 @@ use Rattle.milp_builder.specs.Parts.{SplitsOffsets, SplitsOpenings}
 use Rattle.milp_builder.specs.declared.boxes.BoxRange.{BoxRange}
 use Rattle.branch_bound.specs.inside.FreeSplits.{IsFreeHeight}
 use Rattle.branch_bound.specs.inside.Splitting.{IsInnerBreakpoint}
-use Rattle.branch_bound.specs.declared.free_splits.Candidate.{Candidate}
+use Rattle.branch_bound.specs.declared.splitting.Candidate.{Candidate}
 use Rattle.branch_bound.proofs.AskingLemmas.{well_formed_of}
 
 pub tables_of_section : (road : Road) (i : ℕ) → road_fault road ≡ None → IsNumber i (section_count road) → HasSlabTables (section road i)

@@ -9,23 +9,16 @@ ghost use Rattle.milp_builder.specs.Parts.{IsSplitOf};
 ghost use Rattle.branch_bound.specs.inside.FreeSplits.{IsFreeHeight};
 
 use crate::asking::height_range;
-use crate::splitting::inner_breakpoint;
+use crate::scores::{is_apart, rounded, width};
+use crate::splitting::{Candidate, best_breakpoint, inner_breakpoint};
 use milp_builder::{BoxRange, Split};
-use road_types::{Column, Road, Section, Slab, column_of};
+use road_types::{Column, Road, column_of};
 
 /// About where a point stands: for each column a number over the unit. Nothing is known of it, and it may have no numbers.
 #[derive(Clone, Copy)]
 pub struct Rough<'a> {
     pub unit: i128,
     pub numbers: &'a [i128],
-}
-
-/// The split of a section's heights at a breakpoint strictly inside its range of offsets, and its score.
-#[derive(Clone, Copy)]
-pub struct Candidate {
-    pub section: usize,
-    pub at: i64,
-    pub score: i128,
 }
 
 /// A split of a box: one for which a rough point asks; and else that of the section whose volume can still differ most; and else
@@ -131,35 +124,22 @@ fn rough_height_at(road: &Road, range: &BoxRange, rough: Rough<'_>, number: usiz
 {
     let section = road.section(number);
     let heights = height_range(range, number);
-    let missed = missed_volume(road, rough, number, heights);
-    if missed <= 1 {
+    let place = rounded(
+        number_of(road, rough, Column::Offset { section: number }),
+        moved_volume(road, rough, number),
+        rough.unit,
+    );
+    if !is_apart(section, heights, place) {
         return None;
     }
-    match inner_breakpoint(section, heights) {
-        Some(at) => Some(Candidate {
+    match best_breakpoint(section, heights, place) {
+        Some(best) => Some(Candidate {
             section: number,
-            at,
-            score: missed,
+            at: best.at,
+            score: best.score,
         }),
         None => None,
     }
-}
-
-/// By how much a section's volume differs from that of its offset, brought into the range, in litres.
-fn missed_volume(road: &Road, rough: Rough<'_>, number: usize, range: (i64, i64)) -> i128
-    requires accepted { road_fault road.now ≡ None }
-    requires unit { pos 1 ≤ℤ rough.unit }
-    requires number { IsNumber number (section_count road.now) }
-{
-    let offset = number_of(road, rough, Column::Offset { section: number }).div_euclid(rough.unit);
-    let offset = offset.max(i128::from(range.0)).min(i128::from(range.1));
-    let volume = moved_volume(road, rough, number).div_euclid(rough.unit);
-    distance(volume, volume_at(road.section(number), offset))
-}
-
-/// How far apart two numbers are.
-fn distance(a: i128, b: i128) -> i128 {
-    a.saturating_sub(b).max(b.saturating_sub(a))
 }
 
 /// What a section is filled in all stages, less what it is cut, over the unit.
@@ -246,34 +226,10 @@ fn wide_height_at(road: &Road, range: &BoxRange, number: usize) -> Option<Candid
         Some(at) => Some(Candidate {
             section: number,
             at,
-            score: width_of(section, heights),
+            score: width(section, heights),
         }),
         None => None,
     }
-}
-
-/// By how much a section's volume differs between the ends of a range of offsets, in litres.
-fn width_of(section: &Section, range: (i64, i64)) -> i128 {
-    volume_at(section, i128::from(range.1)).saturating_sub(volume_at(section, i128::from(range.0)))
-}
-
-/// The volume that fills a section up to an offset, less what is cut where the offset is below the ground; in litres.
-fn volume_at(section: &Section, offset: i128) -> i128 {
-    let filled = volume_to(section.fill.as_slice(), offset);
-    let cut = volume_to(section.cut.as_slice(), 0i128.saturating_sub(offset));
-    filled.saturating_sub(cut)
-}
-
-/// The volume of slabs down to a depth, in litres.
-fn volume_to(slabs: &[Slab], depth: i128) -> i128 {
-    let mut left = depth.max(0);
-    let mut volume = 0i128;
-    for slab in slabs {
-        let here = left.min(i128::from(slab.thick));
-        volume = volume.saturating_add(here.saturating_mul(i128::from(slab.area)));
-        left = left.saturating_sub(here);
-    }
-    volume
 }
 
 /// The split of the first block whose opening isn't decided: between its least opening and those after it.

@@ -40,6 +40,18 @@ pub(crate) fn score(section: &Section, range: (i64, i64), at: i64, place: Place)
     cut_off(section, low, at, place).saturating_mul(cut_off(section, at, high, place))
 }
 
+/// Whether the volume of a place differs from that of its offset, brought into a range, by more than a litre.
+pub(crate) fn is_apart(section: &Section, range: (i64, i64), place: Place) -> bool {
+    let offset = clamped(place.offset, i128::from(range.0), i128::from(range.1));
+    let volume = net_volume(section, offset);
+    outside(place.volume, volume, volume) > 1
+}
+
+/// By how much a section's volume differs between the ends of a range of offsets, in litres.
+pub(crate) fn width(section: &Section, range: (i64, i64)) -> i128 {
+    net_volume(section, i128::from(range.1)).saturating_sub(net_volume(section, i128::from(range.0)))
+}
+
 /// How far a place lies outside a part, in litres: the distance of its volume from what the part's rows allow at the nearest offset of
 /// the part, and the least area of the part times the distance to that offset.
 fn cut_off(section: &Section, low: i128, high: i128, place: Place) -> i128 {

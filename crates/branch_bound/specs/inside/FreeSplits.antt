@@ -3,7 +3,7 @@ use Rattle.std.specs.Prelude.{Option, Some, None}
 use Rattle.road_types.specs.declared.road.Road.{Road}
 use Rattle.milp_builder.specs.Parts.{SplitsOffsets}
 use Rattle.milp_builder.specs.declared.boxes.BoxRange.{BoxRange}
-use Rattle.branch_bound.specs.declared.free_splits.Candidate.{Candidate}
+use Rattle.branch_bound.specs.declared.splitting.Candidate.{Candidate}
 
 -- none, or a section at one of whose breakpoints the box can be split
 abbrev pub IsFreeHeight : Road → BoxRange → Option Candidate → Type 0
