@@ -3,10 +3,12 @@ ghost use Rattle.std.specs.Prelude.{◌≡◌, ◌⊎◌, ◌≤◌, ◌<◌, No
 ghost use Rattle.road_types.specs.Faults.{road_fault};
 ghost use Rattle.road_types.specs.Numbered.{IsNumber};
 ghost use Rattle.road_types.specs.Ranges.{height_range};
-ghost use Rattle.road_types.specs.Road.{section_count, block_count};
+ghost use Rattle.road_types.specs.Road.{section, section_count, block_count};
+ghost use Rattle.volume_lines.specs.SlabTables.{HasSlabTables};
 ghost use Rattle.milp_builder.specs.Boxes.{IsBoxOf, opening_range};
 ghost use Rattle.milp_builder.specs.Parts.{IsSplitOf};
 ghost use Rattle.branch_bound.specs.inside.FreeSplits.{IsFreeHeight};
+ghost use Rattle.branch_bound.specs.inside.Splitting.{IsInnerBreakpoint};
 
 use crate::asking::height_range;
 use crate::splitting::inner_breakpoint;
@@ -129,13 +131,11 @@ fn rough_height_at(road: &Road, range: &BoxRange, rough: Rough<'_>, number: usiz
     requires number { IsNumber number (section_count road.now) }
     ensures { IsFreeHeight road.now range.now result }
 {
-    let section = road.section(number);
-    let heights = height_range(range, number);
-    let missed = missed_volume(road, rough, number, heights);
+    let missed = missed_volume(road, rough, number, height_range(range, number));
     if missed <= 1 {
         return None;
     }
-    match inner_breakpoint(section, heights) {
+    match inner_at(road, range, number) {
         Some(at) => Some(Candidate {
             section: number,
             at,
@@ -177,7 +177,6 @@ fn moved_volume(road: &Road, rough: Rough<'_>, section: usize) -> i128
 }
 
 /// The rough number of a column, 0 where there is none.
-#[tactic(auto, using(crate::proofs::FreeLemmas::counted_of))]
 fn number_of(road: &Road, rough: Rough<'_>, kind: Column) -> i128
     requires accepted { road_fault road.now ≡ None }
 {
@@ -240,16 +239,24 @@ fn wide_height_at(road: &Road, range: &BoxRange, number: usize) -> Option<Candid
     requires number { IsNumber number (section_count road.now) }
     ensures { IsFreeHeight road.now range.now result }
 {
-    let section = road.section(number);
-    let heights = height_range(range, number);
-    match inner_breakpoint(section, heights) {
+    match inner_at(road, range, number) {
         Some(at) => Some(Candidate {
             section: number,
             at,
-            score: width_of(section, heights),
+            score: width_of(road.section(number), height_range(range, number)),
         }),
         None => None,
     }
+}
+
+/// A breakpoint strictly inside the range of offsets of a section.
+fn inner_at(road: &Road, range: &BoxRange, number: usize) -> Option<i64>
+    requires number { IsNumber number (section_count road.now) }
+    requires ranges { IsNumber number (length range.now.heights) }
+    requires tables { HasSlabTables (section road.now number) }
+    ensures { IfSome result (λ at. IsInnerBreakpoint (section road.now number) (height_range range.now.heights number) at) }
+{
+    inner_breakpoint(road.section(number), height_range(range, number))
 }
 
 /// By how much a section's volume differs between the ends of a range of offsets, in litres.
