@@ -3,14 +3,16 @@ ghost use Rattle.std.specs.Prelude.{◌≡◌, ◌⊎◌, ◌≤◌, ◌<◌, No
 ghost use Rattle.road_types.specs.Faults.{road_fault};
 ghost use Rattle.road_types.specs.Numbered.{IsNumber};
 ghost use Rattle.road_types.specs.Ranges.{height_range};
-ghost use Rattle.road_types.specs.Road.{section_count, block_count};
+ghost use Rattle.road_types.specs.Road.{section, section_count, block_count};
+ghost use Rattle.volume_lines.specs.SlabTables.{HasSlabTables};
 ghost use Rattle.milp_builder.specs.Boxes.{IsBoxOf, opening_range};
 ghost use Rattle.milp_builder.specs.Parts.{IsSplitOf};
 ghost use Rattle.branch_bound.specs.inside.FreeSplits.{IsFreeHeight};
+ghost use Rattle.branch_bound.specs.inside.Splitting.{IsInnerBreakpoint};
 
 use crate::asking::height_range;
-use crate::scores::{is_apart, rounded, width};
-use crate::splitting::{Candidate, best_breakpoint, inner_breakpoint};
+use crate::scores::{Place, is_apart, rounded, width};
+use crate::splitting::{Candidate, Ranked, best_breakpoint, inner_breakpoint};
 use milp_builder::{BoxRange, Split};
 use road_types::{Column, Road, column_of};
 
@@ -122,21 +124,15 @@ fn rough_height_at(road: &Road, range: &BoxRange, rough: Rough<'_>, number: usiz
     requires number { IsNumber number (section_count road.now) }
     ensures { IsFreeHeight road.now range.now result }
 {
-    let section = road.section(number);
-    let heights = height_range(range, number);
-    let place = rounded(
-        number_of(road, rough, Column::Offset { section: number }),
-        moved_volume(road, rough, number),
-        rough.unit,
-    );
-    if !is_apart(section, heights, place) {
+    let place = rough_place(road, rough, number);
+    if !is_apart(road.section(number), height_range(range, number), place) {
         return None;
     }
-    match best_breakpoint(section, heights, place) {
-        Some(best) => Some(Candidate {
+    match best_at(road, range, number, place) {
+        Some(ranked) => Some(Candidate {
             section: number,
-            at: best.at,
-            score: best.score,
+            at: ranked.at,
+            score: ranked.score,
         }),
         None => None,
     }
@@ -157,7 +153,6 @@ fn moved_volume(road: &Road, rough: Rough<'_>, section: usize) -> i128
 }
 
 /// The rough number of a column, 0 where there is none.
-#[tactic(auto, using(crate::proofs::FreeLemmas::counted_of))]
 fn number_of(road: &Road, rough: Rough<'_>, kind: Column) -> i128
     requires accepted { road_fault road.now ≡ None }
 {
@@ -220,16 +215,46 @@ fn wide_height_at(road: &Road, range: &BoxRange, number: usize) -> Option<Candid
     requires number { IsNumber number (section_count road.now) }
     ensures { IsFreeHeight road.now range.now result }
 {
-    let section = road.section(number);
-    let heights = height_range(range, number);
-    match inner_breakpoint(section, heights) {
+    match inner_at(road, range, number) {
         Some(at) => Some(Candidate {
             section: number,
             at,
-            score: width(section, heights),
+            score: width(road.section(number), height_range(range, number)),
         }),
         None => None,
     }
+}
+
+/// A breakpoint strictly inside the range of offsets of a section.
+fn inner_at(road: &Road, range: &BoxRange, number: usize) -> Option<i64>
+    requires number { IsNumber number (section_count road.now) }
+    requires ranges { IsNumber number (length range.now.heights) }
+    requires tables { HasSlabTables (section road.now number) }
+    ensures { IfSome result (λ at. IsInnerBreakpoint (section road.now number) (height_range range.now.heights number) at) }
+{
+    inner_breakpoint(road.section(number), height_range(range, number))
+}
+
+/// The breakpoint strictly inside the range of offsets of a section that scores best.
+fn best_at(road: &Road, range: &BoxRange, number: usize, place: Place) -> Option<Ranked>
+    requires number { IsNumber number (section_count road.now) }
+    requires ranges { IsNumber number (length range.now.heights) }
+    requires tables { HasSlabTables (section road.now number) }
+    ensures { IfSome result (λ best. IsInnerBreakpoint (section road.now number) (height_range range.now.heights number) best.at) }
+{
+    best_breakpoint(road.section(number), height_range(range, number), place)
+}
+
+/// About where a section stands: its offset in whole mm, and what it is filled less what it is cut in whole litres.
+fn rough_place(road: &Road, rough: Rough<'_>, number: usize) -> Place
+    requires accepted { road_fault road.now ≡ None }
+    requires unit { pos 1 ≤ℤ rough.unit }
+{
+    rounded(
+        number_of(road, rough, Column::Offset { section: number }),
+        moved_volume(road, rough, number),
+        rough.unit,
+    )
 }
 
 /// The split of the first block whose opening isn't decided: between its least opening and those after it.

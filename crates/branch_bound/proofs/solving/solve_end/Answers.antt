@@ -31,8 +31,8 @@ stopped_leaf-requires-clause-proving c =
     let within : AreWithin (2 ^ 127 - 1) c.in-Pivots.mults.items = subst (λ (e : LpEnd). HasNumbersWithin (2 ^ 127 - 1) e) c.in-Pivots.is c.requires.numbers in
     simp to_z-of_z (spent_proving c.args.milp.now (exchange_budget c.args.road.now) c.in-Pivots.trail.items c.in-Pivots.scale c.in-Pivots.mults.items within end)
 
-pub stopped_leaf-requires-clause-proving-in-Wide : goal.stopped_leaf-requires-clause-proving-in-Wide
-stopped_leaf-requires-clause-proving-in-Wide c =
+pub stopped_leaf-requires-in-Wide-clause-proving : goal.stopped_leaf-requires-in-Wide-clause-proving
+stopped_leaf-requires-in-Wide-clause-proving c =
     let scale : FitsSigned w128 c.in-Wide.scale = search rules in
     let end : IsWide (2 ^ 127 - 1) c.args.milp.now (exchange_budget c.args.road.now) c.in-Wide.trail.items c.in-Wide.op c.in-Wide.scale c.in-Wide.mults.items =
     subst (λ (e : LpEnd). IsEnd (2 ^ 127 - 1) c.args.milp.now (exchange_budget c.args.road.now) e) c.in-Wide.is c.requires.end in
