@@ -137,6 +137,7 @@ fn solve_end(
             mults,
             rough,
         } => {
+            drop(rough);
             let note = NodeNote::Pivots {
                 trail: Listed::new(trail),
             };
@@ -155,6 +156,7 @@ fn solve_end(
             mults,
             rough,
         } => {
+            drop(rough);
             let note = NodeNote::Wide {
                 trail: Listed::new(trail),
                 op,
