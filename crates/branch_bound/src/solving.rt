@@ -137,7 +137,6 @@ fn solve_end(
             mults,
             rough,
         } => {
-            drop(rough);
             let note = NodeNote::Pivots {
                 trail: Listed::new(trail),
             };
@@ -156,7 +155,6 @@ fn solve_end(
             mults,
             rough,
         } => {
-            drop(rough);
             let note = NodeNote::Wide {
                 trail: Listed::new(trail),
                 op,
