@@ -19,12 +19,11 @@ use Rattle.road_points.specs.Shown.{IsExactAt, HasExactVolumes}
 use Rattle.road_points.proofs.FormsHold.{tables_of}
 use Rattle.milp_builder.specs.Boxes.{IsBoxOf}
 use Rattle.milp_builder.specs.BoxPrograms.{box_program}
-use Rattle.milp_builder.specs.Comparing.{IsComparable, HasComparableVolumes, greatest_comparable}
+use Rattle.milp_builder.specs.Comparing.{IsComparable, greatest_comparable}
 use Rattle.milp_builder.specs.FoundPlans.{IsPartRemoval, IsOtherVolume}
 use Rattle.milp_builder.specs.declared.boxes.BoxRange.{BoxRange}
 use Rattle.milp_builder.specs.declared.boxes.Split.TheVariants.{Removal, Height}
 use Rattle.branch_bound.specs.inside.Asking.{IsAsked}
-use Rattle.milp_builder.proofs.ComparingLemmas.{comparable_of}
 use Rattle.milp_builder.proofs.ShownLemmas.{numbers_more}
 use Rattle.branch_bound.specs.declared.splitting.Candidate.{Candidate}
 use Rattle.branch_bound.specs.inside.Splitting.{IsInnerBreakpoint, IsAskedHeight, IsBestOf}
@@ -104,10 +103,6 @@ best_is_asked road box den point best h fits d p b = height_is_asked road box de
 
 pub next_number : (road : Road) (before : ℕ) → before < section_count road → IsNumber (before + 1) (section_count road)
 next_number road before l = record { from_one = omega arith; at_most = omega arith }
-
-pub small_at : (road : Road) (box : BoxRange) (den : ℤ) (point : List ℤ) → road_fault road ≡ None → IsBoxOf road box → IsComparable den
-    → IsPoint (box_program road box) den point → HasComparableVolumes road point
-small_at = comparable_of
 
 pub other_at : (road : Road) (den : ℤ) (point : List ℤ) (i : ℕ) → IsNumber i (section_count road) → (IsExactAt road den point i → ⊥) → IsOtherVolume road den point i
 other_at road den point i n e = record { number = n; not_exact = e }

@@ -1,23 +1,13 @@
 -- Breakpoints strictly inside a range, from thicknesses of leading slabs.
-use Rattle.std.proofs.Common.{◌≡◌, ℕ, ◌+◌, ◌<◌, ◌≤◌, List, sym, ap, subst, arith, inl, inr, ⊎_elim}
-use Rattle.std.specs.Prelude.{ℤ, pos, neg_ℤ, ◌-ℤ◌, ◌<ℤ◌, unsigned_abs, FitsSigned}
+use Rattle.std.proofs.Common.{◌≡◌, ◌<◌, sym, ap, arith, inl, inr, ⊎_elim}
+use Rattle.std.specs.Prelude.{ℤ, pos, neg_ℤ, ◌<ℤ◌, FitsSigned}
 use Rattle.std.specs.Int.{w64}
 use Rattle.std.proofs.lemmas.Int.{ints}
-use Rattle.algebra.proofs.Magnitudes.{zero_of_unsigned_abs}
-use Rattle.road_types.specs.Numbered.{IsNumber}
 use Rattle.road_types.specs.Breakpoints.{leading_thickness}
-use Rattle.road_types.specs.declared.road.Road.{Road}
 use Rattle.road_types.specs.declared.road.Section.{Section}
 use Rattle.volume_lines.specs.InnerBreakpoints.{HasBreakpointInside}
-use Rattle.road_types.specs.Road.{section, section_count}
-use Rattle.road_types.specs.Volumes.{net_volume}
-use Rattle.road_types.specs.declared.column.Column.TheVariants.{Offset}
-use Rattle.road_points.specs.Shown.{shown, moved_volume, IsExactAt, HasExactVolumes}
-use Rattle.milp_builder.specs.FoundPlans.{IsOtherVolume}
 use Rattle.milp_builder.proofs.LeadingSlabs.{leading_none}
-use Rattle.milp_builder.proofs.ShownLemmas.{numbers_more}
-use Rattle.branch_bound.specs.inside.Splitting.{IsInnerBreakpoint, IsInnerThickness, HasNoInnerThickness, IsWorstOf}
-use Rattle.branch_bound.specs.declared.splitting.Worst.{Worst}
+use Rattle.branch_bound.specs.inside.Splitting.{IsInnerBreakpoint, IsInnerThickness, HasNoInnerThickness}
 
 pub zero_inside : (s : Section) (low high : ℤ) → (low <ℤ pos 0) × (pos 0 <ℤ high) → IsInnerBreakpoint s (low, high) (pos 0)
 zero_inside s low high h = record { breakpoint = (0, inl (sym (leading_none s.fill))); above = h.0; below = h.1 }

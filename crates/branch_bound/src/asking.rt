@@ -4,6 +4,7 @@ ghost use Rattle.algebra.specs.Scale.{greatest_scale};
 ghost use Rattle.programs.specs.Points.{IsPoint};
 ghost use Rattle.road_types.specs.Faults.{road_fault};
 ghost use Rattle.road_types.specs.Numbered.{IsNumber};
+ghost use Rattle.road_types.specs.WellFormed.{IsWellFormed};
 ghost use Rattle.road_types.specs.Ranges.{height_range};
 ghost use Rattle.road_types.specs.Road.{section, section_count};
 ghost use Rattle.road_points.specs.Shown.{HasWholeRemovals, IsExactAt, HasExactVolumes};
@@ -18,7 +19,9 @@ ghost use Rattle.branch_bound.specs.inside.Splitting.{IsInnerBreakpoint, IsAsked
 
 use crate::scores::{Place, rounded};
 use crate::splitting::{Candidate, Ranked, best_breakpoint, better_of};
-use milp_builder::{BoxRange, GREATEST_COMPARABLE, Split, is_exact_at, moved_volume, part_removal, shown};
+use milp_builder::{
+    BoxRange, GREATEST_COMPARABLE, Split, is_exact_at, moved_volume, part_removal, shown,
+};
 use road_types::{Column, Road};
 
 /// The split for which a point asks: that of a removal, and else that of a section's heights. Where there is none, removals are
@@ -92,7 +95,7 @@ fn height_split(road: &Road, range: &BoxRange, den: i128, point: &[i128]) -> Opt
 }
 
 /// The best of the splits of heights for which a point asks.
-#[tactic(auto, using(crate::proofs::AskingLemmas::none_best, crate::proofs::AskingLemmas::best_of_all))]
+#[tactic(auto, using(crate::proofs::AskingLemmas::well_formed_of, crate::proofs::AskingLemmas::none_best, crate::proofs::AskingLemmas::best_of_all))]
 fn best_height(road: &Road, range: &BoxRange, den: i128, point: &[i128]) -> Option<Candidate>
     requires accepted { road_fault road.now ≡ None }
     requires fits { IsBoxOf road.now range.now }
@@ -117,6 +120,7 @@ fn best_with(
     best: Option<Candidate>,
     before: usize,
 ) -> Option<Candidate>
+    requires well_formed { IsWellFormed road.now }
     requires accepted { road_fault road.now ≡ None }
     requires fits { IsBoxOf road.now range.now }
     requires den { IsComparable den }
@@ -132,7 +136,7 @@ fn best_with(
 }
 
 /// Whether a section is filled and cut as its offset asks.
-#[tactic(auto, using(crate::proofs::AskingLemmas::well_formed_of, crate::proofs::AskingLemmas::small_at))]
+#[tactic(auto, using(crate::proofs::AskingLemmas::well_formed_of))]
 fn is_exact(road: &Road, range: &BoxRange, den: i128, point: &[i128], number: usize) -> bool
     requires accepted { road_fault road.now ≡ None }
     requires fits { IsBoxOf road.now range.now }
@@ -170,7 +174,7 @@ fn candidate_at(
 }
 
 /// Where a point shows a section.
-#[tactic(auto, using(crate::proofs::AskingLemmas::well_formed_of, crate::proofs::AskingLemmas::small_at))]
+#[tactic(auto, using(crate::proofs::AskingLemmas::well_formed_of))]
 fn place_at(road: &Road, range: &BoxRange, den: i128, point: &[i128], number: usize) -> Place
     requires accepted { road_fault road.now ≡ None }
     requires fits { IsBoxOf road.now range.now }
