@@ -120,7 +120,9 @@ fn solve_end(
             trail,
             scale,
             mults,
+            rough,
         } => {
+            drop(rough);
             let note = NodeNote::Pivots {
                 trail: Listed::new(trail),
             };
@@ -131,7 +133,9 @@ fn solve_end(
             op,
             scale,
             mults,
+            rough,
         } => {
+            drop(rough);
             let note = NodeNote::Wide {
                 trail: Listed::new(trail),
                 op,

@@ -4,7 +4,7 @@ use Rattle.std.specs.Prelude.{◌≢◌, nat_lt, if◌then◌else◌}
 use Rattle.tableau.specs.Tableaux.{Tableau, IsRow}
 use Rattle.tableau.specs.Exchanges.{IsOutside}
 use Rattle.tableau.specs.declared.bound.Bound.{Bound}
-use Rattle.simplex.specs.inside.Surveys.{IsSurveyed}
+use Rattle.simplex.specs.inside.Pricing.{IsPriced}
 
 same_or_not : (i k : ℕ) → (i ≡ k) ⊎ (i ≢ k)
 same_or_not i k = grind arith
@@ -12,8 +12,8 @@ same_or_not i k = grind arith
 lt_or_le : (a b : ℕ) → (a < b) ⊎ (b ≤ a)
 lt_or_le a b = grind arith
 
-pub surveyed_begins : (t : Tableau) (fb ob : Bound) (fj o : ℕ) → fj ≡ 2 ^ 32 - 1 → IsSurveyed t 0 0 fb fj o ob
-surveyed_begins t fb ob fj o e = record {
+pub priced_begins : (t : Tableau) (fb ob : Bound) (fj o : ℕ) → fj ≡ 2 ^ 32 - 1 → IsPriced t 0 0 fb fj o ob
+priced_begins t fb ob fj o e = record {
   none = λ _. (e, λ k b low high. absurd (omega arith));
   some = λ z. absurd (z refl);
   least = λ k b low high. absurd (omega arith);
@@ -21,8 +21,8 @@ surveyed_begins t fb ob fj o e = record {
 }
 
 -- the next row isn't outside
-pub surveyed_inside : (t : Tableau) (done f : ℕ) (fb : Bound) (fj o : ℕ) (ob : Bound) → IsSurveyed t done f fb fj o ob → ((b : Bound) → IsOutside t (done + 1) b → ⊥) → IsSurveyed t (done + 1) f fb fj o ob
-surveyed_inside t done f fb fj o ob h inside = record {
+pub priced_inside : (t : Tableau) (done f : ℕ) (fb : Bound) (fj o : ℕ) (ob : Bound) → IsPriced t done f fb fj o ob → ((b : Bound) → IsOutside t (done + 1) b → ⊥) → IsPriced t (done + 1) f fb fj o ob
+priced_inside t done f fb fj o ob h inside = record {
   none = λ z. (
     (h.none z).0,
     λ k b low high outside. ⊎_elim
@@ -44,7 +44,7 @@ if_true a b x y l = grind arith
 if_false : {X : Type 0} (a b : ℕ) (x y : X) → b ≤ a → (if nat_lt a b then x else y) ≡ y
 if_false a b x y l = grind arith
 
-module _ (t : Tableau) (done f : ℕ) (fb : Bound) (fj o : ℕ) (ob : Bound) (h : IsSurveyed t done f fb fj o ob) (row : ℕ) (is : row ≡ done + 1) (i_row : IsRow t row) (b : Bound) (outside : IsOutside t row b)
+module _ (t : Tableau) (done f : ℕ) (fb : Bound) (fj o : ℕ) (ob : Bound) (h : IsPriced t done f fb fj o ob) (row : ℕ) (is : row ≡ done + 1) (i_row : IsRow t row) (b : Bound) (outside : IsOutside t row b)
     (basic : ℕ) (basic_is : t.basis row ≡ basic) (small : basic < 2 ^ 32 - 1) (o' : ℕ) (ob' : Bound)
     (larger : ((o' ≡ row) × (ob' ≡ b)) ⊎ ((o' ≡ o) × ((ob' ≡ ob) × (o ≢ 0)))) (known : o ≢ 0 → f ≢ 0) where
   row_some : row ≢ 0
@@ -65,26 +65,26 @@ module _ (t : Tableau) (done f : ℕ) (fb : Bound) (fj o : ℕ) (ob : Bound) (h 
       (subst (λ (x : ℕ). IsRow t x) (sym p.0) old.0, subst (λ (x : ℕ). IsOutside t x ob') (sym p.0) (subst (λ (x : Bound). IsOutside t o x) (sym p.1.0) old.1)))
       larger
 
-  pub surveyed_lesser : basic < fj → IsSurveyed t (done + 1) row b basic o' ob'
-  surveyed_lesser less = record {
+  pub priced_lesser : basic < fj → IsPriced t (done + 1) row b basic o' ob'
+  priced_lesser less = record {
     none = λ z. absurd (row_some z);
     some = λ _. (i_row, outside, basic_is);
     least = least_more basic (omega arith) (omega arith);
     another = λ _. other_row;
   }
 
-  pub surveyed_same : fj ≤ basic → IsSurveyed t (done + 1) f fb fj o' ob'
-  surveyed_same more = record {
+  pub priced_same : fj ≤ basic → IsPriced t (done + 1) f fb fj o' ob'
+  priced_same more = record {
     none = λ z. let e = (h.none z).0 in absurd (omega arith);
     some = h.some;
     least = least_more fj (omega arith) more;
     another = λ _. other_row;
   }
 
-  pub surveyed_outside : (first : ℕ × Bound × ℕ) → first ≡ (if nat_lt basic fj then (row, b, basic) else (f, fb, fj)) → IsSurveyed t (done + 1) first.0 first.1 first.2 o' ob'
-  surveyed_outside first e = ⊎_elim
-      (λ (l : basic < fj). subst (λ (x : ℕ × Bound × ℕ). IsSurveyed t (done + 1) x.0 x.1 x.2 o' ob') (sym (e ∙ if_true basic fj (row, b, basic) (f, fb, fj) l)) (surveyed_lesser l))
-      (λ (l : fj ≤ basic). subst (λ (x : ℕ × Bound × ℕ). IsSurveyed t (done + 1) x.0 x.1 x.2 o' ob') (sym (e ∙ if_false basic fj (row, b, basic) (f, fb, fj) l)) (surveyed_same l))
+  pub priced_outside : (first : ℕ × Bound × ℕ) → first ≡ (if nat_lt basic fj then (row, b, basic) else (f, fb, fj)) → IsPriced t (done + 1) first.0 first.1 first.2 o' ob'
+  priced_outside first e = ⊎_elim
+      (λ (l : basic < fj). subst (λ (x : ℕ × Bound × ℕ). IsPriced t (done + 1) x.0 x.1 x.2 o' ob') (sym (e ∙ if_true basic fj (row, b, basic) (f, fb, fj) l)) (priced_lesser l))
+      (λ (l : fj ≤ basic). subst (λ (x : ℕ × Bound × ℕ). IsPriced t (done + 1) x.0 x.1 x.2 o' ob') (sym (e ∙ if_false basic fj (row, b, basic) (f, fb, fj) l)) (priced_same l))
       (lt_or_le basic fj)
 
   pub other_known : o' ≢ 0
@@ -93,7 +93,7 @@ module _ (t : Tableau) (done f : ℕ) (fb : Bound) (fj o : ℕ) (ob : Bound) (h 
       (λ (p : (o' ≡ o) × ((ob' ≡ ob) × (o ≢ 0))). p.1.1 (sym p.0 ∙ z))
       larger
 
-pub first_known : (t : Tableau) (done f : ℕ) (fb : Bound) (fj o : ℕ) (ob : Bound) → IsSurveyed t done f fb fj o ob → (row : ℕ) → row ≢ 0 → (b : Bound) (basic : ℕ) → basic < 2 ^ 32 - 1 → (first : ℕ × Bound × ℕ) → first ≡ (if nat_lt basic fj then (row, b, basic) else (f, fb, fj)) → first.0 ≢ 0
+pub first_known : (t : Tableau) (done f : ℕ) (fb : Bound) (fj o : ℕ) (ob : Bound) → IsPriced t done f fb fj o ob → (row : ℕ) → row ≢ 0 → (b : Bound) (basic : ℕ) → basic < 2 ^ 32 - 1 → (first : ℕ × Bound × ℕ) → first ≡ (if nat_lt basic fj then (row, b, basic) else (f, fb, fj)) → first.0 ≢ 0
 first_known t done f fb fj o ob h row some b basic small first e z = ⊎_elim
     (λ (l : basic < fj). some (sym (ap (λ x. x.0) (e ∙ if_true basic fj (row, b, basic) (f, fb, fj) l)) ∙ z))
     (λ (l : fj ≤ basic).

@@ -3,7 +3,7 @@ use Rattle.sparse_rows.proofs.LinesLemmas.{line_wider}
 use Rattle.sparse_rows.proofs.SumsLemmas.{meaning_here}
 use Rattle.sparse_rows.proofs.Tests.{told_true, told_false}
 use Rattle.simplex.proofs.Breaks.{broken_sum, same_sign_at, opposite_sign_at, wide_product}
-use Rattle.simplex.proofs.choosing.broken_bound.Goals as goal
+use Rattle.simplex.proofs.pricing.broken_bound.Goals as goal
 
 pub returns-in_default-clause-wide : goal.returns-in_default-clause-wide
 returns-in_default-clause-wide g c =

@@ -3,12 +3,12 @@ use Rattle.programs.specs.Programs.{row_count}
 use Rattle.tableau.specs.Tableaux.{IsRow}
 use Rattle.tableau.specs.declared.bound.Bound.{Bound}
 use Rattle.simplex.specs.States.{State, tableau_of, KeepsLaws}
-use Rattle.simplex.proofs.Surveying.{surveyed_inside, surveyed_outside, first_known}
-use Rattle.simplex.proofs.table.Tableau.survey.Goals as goal
+use Rattle.simplex.proofs.PricingLemmas.{priced_inside, priced_outside, first_known}
+use Rattle.simplex.proofs.table.Tableau.price_rows.Goals as goal
 
 pub loop-k-preserved-in-Ok-None : goal.loop-k-preserved-in-Ok-None
 loop-k-preserved-in-Ok-None g c =
-    (surveyed_inside (tableau_of g.W.Whole.meaning c.args.self.now) c.loop-k.k _ _ _ _ _ c.loop-k.invariant.0 (rw c.in-Ok-None.field-0-is at c.in-Ok-None.ensures.inside), c.loop-k.invariant.1)
+    (priced_inside (tableau_of g.W.Whole.meaning c.args.self.now) c.loop-k.k _ _ _ _ _ c.loop-k.invariant.0 (rw c.in-Ok-None.field-0-is at c.in-Ok-None.ensures.inside), c.loop-k.invariant.1)
 
 pub loop-k-preserved : goal.loop-k-preserved
 loop-k-preserved g c =
@@ -30,7 +30,7 @@ loop-k-preserved g c =
     (λ (e : c.larger-largest.result ≡ (c.loop-k.k + 1, c.in-Ok-Some.bound, c.in-Ok-Some.size)). inl (ap (λ (x : ℕ × Bound × ℕ). x.0) e, ap (λ (x : ℕ × Bound × ℕ). x.1) e))
     (λ (e : (c.larger-largest.result ≡ c.loop-k.largest) × (c.loop-k.largest.0 ≢ 0)). inr (ap (λ (x : ℕ × Bound × ℕ). x.0) e.0, (ap (λ (x : ℕ × Bound × ℕ). x.1) e.0, e.1)))
     c.larger-largest.ensures in (
-      surveyed_outside (tableau_of g.W.Whole.meaning c.args.self.now) c.loop-k.k c.loop-k.first.0 c.loop-k.first.1 c.loop-k.first.2 c.loop-k.largest.0 c.loop-k.largest.1 c.loop-k.invariant.0
+      priced_outside (tableau_of g.W.Whole.meaning c.args.self.now) c.loop-k.k c.loop-k.first.0 c.loop-k.first.1 c.loop-k.first.2 c.loop-k.largest.0 c.loop-k.largest.1 c.loop-k.invariant.0
           (c.loop-k.k + 1) refl i_row c.in-Ok-Some.bound outside (get_or c.as_slice-basis.result.now (c.loop-k.k + 1) 0) basic_is small c.larger-largest.result.0 c.larger-largest.result.1 larger c.loop-k.invariant.1
           c.lesser-first.result c.lesser-first.ensures,
       λ _. first_known (tableau_of g.W.Whole.meaning c.args.self.now) c.loop-k.k c.loop-k.first.0 c.loop-k.first.1 c.loop-k.first.2 c.loop-k.largest.0 c.loop-k.largest.1 c.loop-k.invariant.0

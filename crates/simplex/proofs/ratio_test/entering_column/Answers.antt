@@ -2,7 +2,7 @@ use Rattle.std.proofs.Common.{length, arith, sym}
 use Rattle.sparse_rows.proofs.LinesLemmas.{line_wider}
 use Rattle.simplex.specs.inside.Choices.{MayEnter}
 use Rattle.simplex.proofs.Ratios.{best_none, best_skipped, best_replaced, best_kept, best_wide, t_end, t_entry, best_chosen, toward_same}
-use Rattle.simplex.proofs.choosing.entering_column.Goals as goal
+use Rattle.simplex.proofs.ratio_test.entering_column.Goals as goal
 
 pub loop-term-init : goal.loop-term-init
 loop-term-init g c = best_none g.W.Whole.meaning c.args.row.now c.args.costs.now c.args.basic c.args.low.now c.args.high.now c.args.has_high.now c.args.at_high.now c.args.broken (length c.args.low.now) _ _ c.requires.line c.one-best_cost.ensures c.zero-best_entry.ensures

@@ -1,6 +1,6 @@
 use Rattle.std.proofs.Common.{◌≡◌, ◌<◌, true, length, arith, sym, ◌∙◌}
 use Rattle.sparse_rows.proofs.SumsLemmas.{meaning_here}
-use Rattle.simplex.proofs.choosing.may_enter.Goals as goal
+use Rattle.simplex.proofs.ratio_test.may_enter.Goals as goal
 
 pub returns-clause-movable : goal.returns-clause-movable
 returns-clause-movable g c =

@@ -13,7 +13,7 @@ use Rattle.simplex.specs.inside.Choices.{MayEnter, IsChosen, IsWideRatio}
 use Rattle.simplex.proofs.Keeping.{state}
 use Rattle.simplex.proofs.Breaks.{carry, some_weaker, none_weaker, out_weaker}
 use Rattle.simplex.proofs.Selections.{line_first, eligible_of_enters, empty_of_none, wide_ratio}
-use Rattle.simplex.proofs.table.Tableau.enter.Goals as goal
+use Rattle.simplex.proofs.table.Tableau.ratio_test.Goals as goal
 
 pub entering_column-requires-clause-line : goal.entering_column-requires-clause-line
 entering_column-requires-clause-line g c =

@@ -9,7 +9,7 @@ use Rattle.tableau.specs.declared.op.Op.TheVariants.{Cell}
 use Rattle.simplex.specs.States.{State, tableau_of, KeepsLaws}
 use Rattle.simplex.specs.inside.Rows.{IsRestanding}
 use Rattle.simplex.proofs.Keeping.{state, rising_rows, leaves, wide_op, after_result, after_reached, same_state, kept_again, reached_points}
-use Rattle.simplex.proofs.table.Tableau.exchange.Goals as goal
+use Rattle.simplex.proofs.table.Tableau.change.Goals as goal
 
 pub exchange_rows-requires-clause-rising : goal.exchange_rows-requires-clause-rising
 exchange_rows-requires-clause-rising g c = λ k l.
