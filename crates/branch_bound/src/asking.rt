@@ -19,7 +19,9 @@ ghost use Rattle.branch_bound.specs.inside.Splitting.{IsInnerBreakpoint, IsAsked
 
 use crate::scores::{Place, rounded};
 use crate::splitting::{Candidate, Ranked, best_breakpoint, better_of};
-use milp_builder::{BoxRange, GREATEST_COMPARABLE, Split, is_exact_at, moved_volume, part_removal, shown};
+use milp_builder::{
+    BoxRange, GREATEST_COMPARABLE, Split, is_exact_at, moved_volume, part_removal, shown,
+};
 use road_types::{Column, Road};
 
 /// The split for which a point asks: that of a removal, and else that of a section's heights. Where there is none, removals are

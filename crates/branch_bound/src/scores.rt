@@ -68,9 +68,7 @@ fn cut_off(section: &Section, low: i128, high: i128, place: Place) -> i128 {
         .saturating_add(areas.greatest.saturating_mul(from_low))
         .min(at_high.saturating_sub(areas.least.saturating_mul(to_high)));
     outside(place.volume, least, greatest).saturating_add(
-        areas
-            .least
-            .saturating_mul(outside(place.offset, low, high)),
+        areas.least.saturating_mul(outside(place.offset, low, high)),
     )
 }
 
@@ -87,7 +85,11 @@ fn outside(x: i128, low: i128, high: i128) -> i128 {
 /// The areas of the slabs of a section between two offsets; 0 where there are none.
 fn areas_within(section: &Section, low: i128, high: i128) -> Areas {
     let filled = table_areas(section.fill.as_slice(), low, high);
-    let cut = table_areas(section.cut.as_slice(), high.saturating_neg(), low.saturating_neg());
+    let cut = table_areas(
+        section.cut.as_slice(),
+        high.saturating_neg(),
+        low.saturating_neg(),
+    );
     match (filled, cut) {
         (None, None) => Areas {
             least: 0,

@@ -62,7 +62,12 @@ fn best_from(section: &Section, range: (i64, i64), place: Place, at: i64) -> Ran
         at,
         score: score(section, range, at, place),
     };
-    best_fill(section, range, place, best_cut(section, range, place, first))
+    best_fill(
+        section,
+        range,
+        place,
+        best_cut(section, range, place, first),
+    )
 }
 
 /// The best of a breakpoint inside a range and those below the ground.
