@@ -117,7 +117,12 @@ fn rough_height(road: &Road, range: &BoxRange, rough: Rough<'_>) -> Option<Candi
 
 /// The split of a section's heights, where its volume is another than that of its offset, rounded to litres.
 #[tactic(auto, using(crate::proofs::FreeLemmas::tables_of_section, crate::proofs::FreeLemmas::range_number, crate::proofs::FreeLemmas::section_splits))]
-fn rough_height_at(road: &Road, range: &BoxRange, rough: Rough<'_>, number: usize) -> Option<Candidate>
+fn rough_height_at(
+    road: &Road,
+    range: &BoxRange,
+    rough: Rough<'_>,
+    number: usize,
+) -> Option<Candidate>
     requires accepted { road_fault road.now ≡ None }
     requires fits { IsBoxOf road.now range.now }
     requires unit { pos 1 ≤ℤ rough.unit }

@@ -49,7 +49,10 @@ pub(crate) fn is_apart(section: &Section, range: (i64, i64), place: Place) -> bo
 
 /// By how much a section's volume differs between the ends of a range of offsets, in litres.
 pub(crate) fn width(section: &Section, range: (i64, i64)) -> i128 {
-    net_volume(section, i128::from(range.1)).saturating_sub(net_volume(section, i128::from(range.0)))
+    net_volume(section, i128::from(range.1)).saturating_sub(net_volume(
+        section,
+        i128::from(range.0),
+    ))
 }
 
 /// How far a place lies outside a part, in litres: the distance of its volume from what the part's rows allow at the nearest offset of

@@ -80,11 +80,7 @@ fn settle_waiting(
     ensures tree { IfOk result (λ tree. box_tree_of tree ≡ tree_of (closed_or cost.now leaf.proved (left_cause leaf.reason) (left_note leaf.reason))) }
     ensures notes { OnOk result (notes.new.items ≡ notes.old.items ++ notes_of (closed_or cost.now leaf.proved (left_cause leaf.reason) (left_note leaf.reason))) }
 {
-    let Waiting {
-        reason,
-        proved,
-        ..
-    } = leaf;
+    let Waiting { reason, proved, .. } = leaf;
     let cause = left_cause(&reason);
     close_or_leave(proved, cost, cause, left_note(reason), notes)
 }

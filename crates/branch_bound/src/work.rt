@@ -30,13 +30,9 @@ pub struct Optimum {
 #[derive(Drop)]
 pub enum Reason {
     /// Its optimum asks for the split.
-    Asked {
-        optimum: Optimum,
-    },
+    Asked { optimum: Optimum },
     /// Its simplex stopped without an optimum of use, as the note says.
-    Stop {
-        note: NodeNote,
-    },
+    Stop { note: NodeNote },
 }
 
 /// A leaf that waits to be split: its box, a split of it, why it waits, and what is proved of it.
