@@ -1,5 +1,5 @@
 -- What the functions that look for a split of a box need: one lemma for each step.
-use Rattle.std.proofs.Common.{◌≡◌, ◌⊎◌, ℕ, ◌-◌, ◌<◌, ◌≤◌, Option, Some, None, List, length, get_or, sym, subst, arith, ⊎_elim}
+use Rattle.std.proofs.Common.{◌≡◌, ◌⊎◌, ℕ, ◌-◌, ◌<◌, ◌≤◌, Option, None, List, length, get_or, sym, subst, ⊎_elim}
 use Rattle.std.specs.Prelude.{ℤ}
 use Rattle.algebra.proofs.NumberedLemmas.{numbered_at}
 use Rattle.road_types.specs.Faults.{road_fault}

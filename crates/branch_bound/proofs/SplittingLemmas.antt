@@ -1,5 +1,5 @@
 -- Breakpoints strictly inside a range, from thicknesses of leading slabs.
-use Rattle.std.proofs.Common.{◌≡◌, ◌<◌, sym, ap, arith, inl, inr, ⊎_elim}
+use Rattle.std.proofs.Common.{◌≡◌, sym, ap, arith, inl, inr, ⊎_elim}
 use Rattle.std.specs.Prelude.{ℤ, pos, neg_ℤ, ◌<ℤ◌, FitsSigned}
 use Rattle.std.specs.Int.{w64}
 use Rattle.std.proofs.lemmas.Int.{ints}

@@ -1,5 +1,4 @@
-use Rattle.std.proofs.Common.{FitsSigned, true, ◌≡◌}
-use Rattle.std.specs.Prelude.{IsTrue}
+use Rattle.std.proofs.Common.{FitsSigned}
 use Rattle.std.specs.Int.{w64}
 use Rattle.std.proofs.lemmas.Int.{to_z-of_z}
 use Rattle.branch_bound.specs.inside.Splitting.{IsInnerBreakpoint}
