@@ -293,7 +293,7 @@ fn answer_bytes(alloc: Global, road: &Road, bytes: &[u8]) -> Result<Checked, Che
 /// Checks a certificate of an accepted road, from any maker. `Ok`, with the stated cost and bound, comes exactly where the bytes are the
 /// text of a valid certificate, of at most 2^26 bytes: then the cost is that of an admissible plan which stands in the bytes, no
 /// admissible plan costs less than the bound, and without a bound no plan is admissible. `Refused` tells the first broken rule with its
-/// line. One leaf is held at a time. None is refused for a width: the values and what they are compared with have at most 126 bits.
+/// line. One leaf is held at a time. None is refused for a width: what is compared has a magnitude of at most 2^126.
 pub fn check(alloc: Global, road: &Road, bytes: &[u8]) -> Result<Checked, CheckErr>
     requires { road_fault road.now ≡ None }
     ensures answer { Answers road.now bytes.now result }
