@@ -3,6 +3,8 @@
 
 mod tree;
 mod values;
+mod written;
 
 pub use tree::{Tree, Why};
-pub use values::{box_value, told_value};
+pub use values::{box_value, spread, told_value};
+pub use written::written;
