@@ -5,7 +5,7 @@ use Rattle.std.proofs.lemmas.Int.{to_z-of_z}
 use Rattle.cert_tree.specs.Written.{IsWritten}
 use Rattle.cert_tree.specs.inside.Pushed.{pushed_unless_zero}
 use Rattle.cert_tree.proofs.WrittenLemmas.{written_more}
-use Rattle.cert_tree.proofs.written.written.Goals as goal
+use Rattle.cert_tree.proofs.pairs.written.Goals as goal
 
 pub loop-before-preserved : goal.loop-before-preserved
 loop-before-preserved c =
