@@ -124,12 +124,14 @@ told_false b e h p = false≢true (sym e ∙ h.1 p)
 pub best_at : (program : Program) (scale : ℤ) (i : ℕ) (old new last : List ℤ) → IsTried program scale i (pos 1) false old new → IsTried program scale i (negsuc 0) false new last
     → IsRaised program scale i false old last
 best_at program scale i old new last up down =
-    let same = down.0 ∙ up.0 in
-    (same, λ by unit allowed.
-        ⊎_elim
-        (λ (e : by ≡ pos 1). subst (λ b. DoesNotRaise program scale old i b) (sym e) up.1 allowed)
-        (λ (e : by ≡ negsuc 0). subst (λ b. DoesNotRaise program scale old i b) (sym e) (subst (λ ys. DoesNotRaise program scale ys i (negsuc 0)) up.0 down.1) allowed)
-        unit)
+    let same = down.0 ∙ up.0 in (
+      same,
+      λ by unit allowed.
+          ⊎_elim
+          (λ (e : by ≡ pos 1). subst (λ b. DoesNotRaise program scale old i b) (sym e) up.1 allowed)
+          (λ (e : by ≡ negsuc 0). subst (λ b. DoesNotRaise program scale old i b) (sym e) (subst (λ ys. DoesNotRaise program scale ys i (negsuc 0)) up.0 down.1) allowed)
+          unit,
+    )
 
 pub raised_down : (program : Program) (scale : ℤ) (i : ℕ) (made : Bool) (old new last : List ℤ) → IsTried program scale i (pos 1) false old new → IsTried program scale i (negsuc 0) made new last
     → IsRaised program scale i made old last
@@ -173,6 +175,10 @@ allowed_by program scale (suc sweeps) old new h r = r.allowed
 pub not_fallen_by : (program : Program) (scale : ℤ) (sweeps : ℕ) (old new : List ℤ) → HasRisenBy program scale sweeps old new → value_of program scale old ≤ℤ value_of program scale new
 not_fallen_by program scale zero old new r = subst (λ ys. value_of program scale old ≤ℤ value_of program scale ys) (sym r) (int_le_refl (value_of program scale old))
 not_fallen_by program scale (suc sweeps) old new r = let a = r.above in omega (arith, ints)
+
+pub not_fallen_end : (program : Program) (scale : ℤ) (sweeps rows : ℕ) (old now new : List ℤ) → HasRisenBy program scale sweeps old now → IsSwept program scale rows false now new → value_of program scale old ≤ℤ value_of program scale new
+not_fallen_end program scale sweeps rows old now new r s =
+    subst (λ ys. value_of program scale old ≤ℤ value_of program scale ys) (sym s.0) (not_fallen_by program scale sweeps old now r)
 
 -- one sweep more, which changed some multiplier
 pub risen_more : (program : Program) (scale : ℤ) (sweeps rows : ℕ) (old now new : List ℤ) → HasRisenBy program scale sweeps old now → IsSwept program scale rows true now new → HasRisenBy program scale (sweeps + 1) old new

@@ -15,13 +15,7 @@ use safe_bounds::{Scratch, leaf_value};
 /// 2^40 with right signs, as they are asked to be. The value never falls. After one round or more it rose, or the multipliers
 /// are as before and no change of a single one by 1, within right signs and the limit, raises it. The scratch is asked to have
 /// room for the program's columns. It takes no memory.
-pub fn ascend(
-    milp: &Milp,
-    scale: &mut i128,
-    mults: &mut [i128],
-    rounds: u32,
-    scratch: &mut Scratch,
-)
+pub fn ascend(milp: &Milp, scale: &mut i128, mults: &mut [i128], rounds: u32, scratch: &mut Scratch)
     requires scale { IsScale scale.old }
     requires mults { AreAllowed milp.now mults.old }
     requires scratch { column_count milp.now ≤ scratch.old }
@@ -31,31 +25,30 @@ pub fn ascend(
     ensures risen { 1 ≤ rounds → RoseOrIsBest milp.now scale.old mults.old mults.new }
     ensures scratch { scratch.new ≡ scratch.old }
 {
-    let value = leaf_value(milp, *scale, mults, scratch);
-    ascend_from(milp, *scale, mults, value, rounds, scratch)
+    let mut value = leaf_value(milp, *scale, mults, scratch);
+    ascend_from(milp, *scale, mults, &mut value, rounds, scratch)
 }
 
-/// Does what `ascend` says, from multipliers of this value.
+/// Does what `ascend` says, from multipliers of this value, which is kept.
 fn ascend_from(
     milp: &Milp,
     scale: i128,
     mults: &mut [i128],
-    value: i128,
+    value: &mut i128,
     rounds: u32,
     scratch: &mut Scratch,
 )
     requires scale { IsScale scale }
     requires mults { AreAllowed milp.now mults.old }
-    requires value { value ≡ value_of milp.now scale mults.old }
+    requires value { value.old ≡ value_of milp.now scale mults.old }
     requires scratch { column_count milp.now ≤ scratch.old }
     ensures mults { AreAllowed milp.now mults.new }
     ensures never_falls { value_of milp.now scale mults.old ≤ℤ value_of milp.now scale mults.new }
     ensures risen { 1 ≤ rounds → RoseOrIsBest milp.now scale mults.old mults.new }
     ensures scratch { scratch.new ≡ scratch.old }
 {
-    let mut value = value;
     for _round in 0..rounds {
-        if !sweep(milp, scale, mults, &mut value, scratch) {
+        if !sweep(milp, scale, mults, value, scratch) {
             return;
         }
     }
