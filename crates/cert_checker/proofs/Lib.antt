@@ -4,3 +4,4 @@ pub mod ValidLaws
 pub mod FindLaws
 pub mod CheckLaws
 pub mod OneRefusal
+pub mod CarryLaws

@@ -1,3 +1,5 @@
 pub mod Answered
 pub mod Refusals
+pub mod Carriable
+pub mod Temporary
 pub mod inside

@@ -1,5 +1,5 @@
 use Rattle.road_types.proofs.AcceptedRoad.{IsAccepted-from_fault}
-use Rattle.cert_checker.proofs.CheckLaws.{refuses_rightly, proved}
+use Rattle.cert_checker.proofs.CheckLaws.{refuses_rightly, proved, sound_trees}
 use Rattle.cert_checker.proofs.OneRefusal.{one_refusal}
 use Rattle.cert_checker.proofs.checking.check.Goals as goal
 
@@ -14,3 +14,6 @@ returns-clause-proved c =
 pub returns-clause-one : goal.returns-clause-one
 returns-clause-one c =
     λ a b p q. one_refusal c.args.road.now (IsAccepted-from_fault c.args.road.now c.requires) c.args.bytes.now a b p q
+
+pub returns-clause-bounds : goal.returns-clause-bounds
+returns-clause-bounds c = sound_trees c.args.road.now (IsAccepted-from_fault c.args.road.now c.requires)
