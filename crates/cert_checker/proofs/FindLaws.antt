@@ -1,5 +1,5 @@
 -- What one pass over the bytes finds is what they spell.
-use Rattle.std.proofs.Common.{◌≡◌, ℕ, Option, Ok, Err, List, [], codes, refl, sym, ap, ◌∙◌, arith}
+use Rattle.std.proofs.Common.{◌≡◌, ℕ, Option, Ok, Err, List, [], codes, refl, sym, ap, subst, ◌∙◌, arith}
 use Rattle.std.specs.Prelude.{⊤}
 use Rattle.numbers.specs.Fractions.{Fraction}
 use Rattle.text_parts.specs.Lines.{Reading}
@@ -9,6 +9,7 @@ use Rattle.plan_text.specs.declared.error.TextErr.{TextErr}
 use Rattle.plan_text.specs.declared.error.TextErr.TheVariants.{Bad, NoMemory}
 use Rattle.plan_text.specs.inside.LineReading.{then_read, ◌>>=◌, give, Gives}
 use Rattle.plan_text.specs.inside.PlanReading.{start_of}
+use Rattle.milp_builder.specs.Boxes.{root_box}
 use Rattle.cert_tree.specs.Trees.{BoxTree}
 use Rattle.cert_text.specs.declared.heading.Heading.{Heading}
 use Rattle.cert_text.specs.CertText.{Certificate, IsStatedOrNone}
@@ -19,6 +20,7 @@ use Rattle.cert_text.specs.inside.CertReading.{heading_due, tree_end_due, cert_d
 use Rattle.cert_text.proofs.CertLaws.{heading_spells}
 use Rattle.cert_text.proofs.MisfitLaws.{refused_line-told}
 use Rattle.cert_checker.specs.declared.walk.Walked.{Walked}
+use Rattle.cert_checker.specs.Refusals.{IsTreeRefusal}
 use Rattle.cert_checker.specs.inside.Walking.{IsWalked, Walks}
 use Rattle.cert_checker.specs.declared.checking.Tried.{Tried}
 use Rattle.cert_checker.specs.declared.checking.Tried.TheVariants.{Everything, Lasting}
@@ -47,9 +49,12 @@ heading_failed road bytes tried before after NoMemory s e = tt
 stated : (road : Road) (before after : Reading) (heading : Heading) → heading_due road before ≡ Ok (heading, after) → IsStatedOrNone heading.bound
 stated road before after heading e = ((heading_spells road).sound before after heading e).1.1
 
-pub tried_stated : (road : Road) (tried : Tried) (before after : Reading) (heading : Heading) → heading_due road before ≡ Ok (heading, after) → IsStatedOrNone (bound_tried tried heading.bound)
+tried_stated : (road : Road) (tried : Tried) (before after : Reading) (heading : Heading) → heading_due road before ≡ Ok (heading, after) → IsStatedOrNone (bound_tried tried heading.bound)
 tried_stated road Everything before after heading e = stated road before after heading e
 tried_stated road Lasting before after heading e = tt
+
+pub bound_stated : (road : Road) (tried : Tried) (bound : Option Fraction) (before after : Reading) (heading : Heading) → bound ≡ bound_tried tried heading.bound → heading_due road before ≡ Ok (heading, after) → IsStatedOrNone bound
+bound_stated road tried bound before after heading b e = subst IsStatedOrNone (sym b) (tried_stated road tried before after heading e)
 
 pub walk_failed : (road : Road) (bytes : List ℕ) (tried : Tried) (bound : Option Fraction) (before between after : Reading) (heading : Heading) (error : TextErr) → before ≡ start_of bytes → heading_due road before ≡ Ok (heading, between) → Walks road bound between (Err error) after → FindsOrLine road bytes tried (Err error)
 unfolding cert_of_text tree_end_due
@@ -80,8 +85,8 @@ more_left road bytes tried bound before between after last heading walked nothin
     ∙ ap (λ n. Err n) (sym left.3))
 more_left road bytes tried bound before between after last heading walked nothing NoMemory s h w e left = tt
 
-pub all_found : (road : Road) (bytes : List ℕ) (tried : Tried) (before between after last : Reading) (heading : Heading) (walked : Walked) (nothing : ⊤) (line : ℕ) → before ≡ start_of bytes → heading_due road before ≡ Ok (heading, between) → line ≡ between.number → IsWalked road (bound_tried tried heading.bound) between walked after → line_due (keyword_form (codes "end")) after ≡ Ok (nothing, last) → last.left ≡ [] → AreFound road bytes tried (record { heading = heading; bound_line = line; walked = walked })
-all_found road bytes tried before between after last heading walked nothing line s h l w e none =
+pub all_found : (road : Road) (bytes : List ℕ) (tried : Tried) (bound : Option Fraction) (before between after last : Reading) (heading : Heading) (walked : Walked) (nothing : ⊤) (line : ℕ) → before ≡ start_of bytes → heading_due road before ≡ Ok (heading, between) → line ≡ between.number → bound ≡ bound_tried tried heading.bound → IsWalked road bound between walked after → line_due (keyword_form (codes "end")) after ≡ Ok (nothing, last) → last.left ≡ [] → AreFound road bytes tried (record { heading = heading; bound_line = line; walked = walked })
+all_found road bytes tried bound before between after last heading walked nothing line s h l b w e none =
     let took = ((heading_spells road).sound before between heading h).0 in
     record {
       cert = cert_with heading w.tree;
@@ -95,6 +100,6 @@ all_found road bytes tried before between after last heading walked nothing line
         text_is = took.text_is;
         count = let start = ap (λ (r : Reading). r.number) s in omega (arith, l, took.number_is, start);
       };
-      tree = rw l w.finds;
+      tree = subst (λ o. IsTreeRefusal road o w.tree (root_box road) (line + 1) walked.found) b (rw l w.finds);
       low_is = w.low_is;
     }

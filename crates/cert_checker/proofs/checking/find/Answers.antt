@@ -1,12 +1,12 @@
 use Rattle.std.proofs.Common.{rules}
-use Rattle.cert_checker.proofs.FindLaws.{heading_failed, tried_stated, walk_failed, end_failed, more_left, all_found}
+use Rattle.cert_checker.proofs.FindLaws.{heading_failed, bound_stated, walk_failed, end_failed, more_left, all_found}
 use Rattle.cert_checker.proofs.checking.find.Goals as goal
 
 pub returns-in-Err : goal.returns-in-Err
 returns-in-Err c = heading_failed c.args.road.now c.args.bytes.now c.args.tried c.over-lines.result c.read_heading.new.lines c.in-Err.error (search rules) c.in-Err.ensures
 
 pub walk_tree-requires-clause-bound : goal.walk_tree-requires-clause-bound
-walk_tree-requires-clause-bound c = tried_stated c.args.road.now c.args.tried c.over-lines.result c.read_heading.new.lines c.in-Ok.heading c.in-Ok.ensures
+walk_tree-requires-clause-bound c = bound_stated c.args.road.now c.args.tried c.bound_tried-bound.result c.over-lines.result c.read_heading.new.lines c.in-Ok.heading c.bound_tried-bound.ensures c.in-Ok.ensures
 
 pub returns-in-Err-walk_tree : goal.returns-in-Err-walk_tree
 returns-in-Err-walk_tree c =
@@ -22,4 +22,4 @@ returns-in-Err-read_nothing c =
 
 pub returns-in-Ok-read_nothing : goal.returns-in-Ok-read_nothing
 returns-in-Ok-read_nothing c =
-    all_found c.args.road.now c.args.bytes.now c.args.tried c.over-lines.result c.read_heading.new.lines c.walk_tree.new.lines c.read_end.new.lines c.in-Ok.heading c.in-Ok-walk_tree.walked c.in-Ok-read_end.field-0 c.number-bound_line.result (search rules) c.in-Ok.ensures c.number-bound_line.ensures.value c.in-Ok-walk_tree.ensures c.in-Ok-read_end.ensures c.in-Ok-read_nothing.ensures
+    all_found c.args.road.now c.args.bytes.now c.args.tried c.bound_tried-bound.result c.over-lines.result c.read_heading.new.lines c.walk_tree.new.lines c.read_end.new.lines c.in-Ok.heading c.in-Ok-walk_tree.walked c.in-Ok-read_end.field-0 c.number-bound_line.result (search rules) c.in-Ok.ensures c.number-bound_line.ensures.value c.bound_tried-bound.ensures c.in-Ok-walk_tree.ensures c.in-Ok-read_end.ensures c.in-Ok-read_nothing.ensures

@@ -6,6 +6,6 @@ pub returns-in-Ok : goal.returns-in-Ok
 returns-in-Ok c =
     read_carriable c.args.road.now (IsAccepted-from_fault c.args.road.now c.requires.accepted) c.args.bytes.now c.in-Ok.cert c.requires.tried c.in-Ok.ensures.found
 
-pub returns-in-Err-in-Bad : goal.returns-in-Err-in-Bad
-returns-in-Err-in-Bad c =
-    read_refused c.args.road.now c.args.bytes.now c.in-Bad.line c.requires.tried c.in-Bad.ensures.line
+pub returns-in-Err-Bad : goal.returns-in-Err-Bad
+returns-in-Err-Bad c =
+    read_refused c.args.road.now c.args.bytes.now c.in-Err-Bad.line c.requires.tried c.in-Err-Bad.ensures.line
