@@ -5,6 +5,8 @@ use Rattle.road_types.specs.declared.road.Road.{Road}
 use Rattle.road_types.specs.Accepted.{IsAccepted}
 use Rattle.road_types.specs.RoadPrograms.{row_count as road_row_count}
 use Rattle.plan_text.specs.declared.error.TextErr.{TextErr}
+use Rattle.plan_text.specs.declared.error.TextErr.TheVariants.{Bad, NoMemory as NoRoom}
+use Rattle.plan_text.specs.Misfits.{IfBad}
 use Rattle.safe_bounds.proofs.SparseLemmas.{signs_of_pairs}
 use Rattle.milp_builder.specs.Boxes.{root_box}
 use Rattle.milp_builder.specs.BoxPrograms.{box_program}
@@ -191,8 +193,12 @@ short_of road bytes (inl r) = let e = r.1 in cc
 short_of road bytes (inr (inl r)) = r.0
 short_of road bytes (inr (inr r)) = r.0
 
-pub read_refused : (road : Road) (bytes : List ℕ) (line : ℕ) → IsFirstCarryRefusal road bytes None → refused_line road bytes ≡ Some line → CarriableAnswers road bytes (Err (Refused CertRule.C2 line))
-read_refused road bytes line none e = inr (inl (short_of road bytes none, (line, (e, refl))))
+told_line : (line : ℕ) (due : Option ℕ) (error : TextErr) → error ≡ Bad line → IfBad {A = Cert} (Err error) (λ l. due ≡ Some l) → due ≡ Some line
+told_line line due (Bad l) is h = let same : l ≡ line = cc in h ∙ ap (λ n. Some n) same
+told_line line due NoRoom is h = cc
+
+pub read_refused : (road : Road) (bytes : List ℕ) (line : ℕ) (error : TextErr) → IsFirstCarryRefusal road bytes None → error ≡ Bad line → IfBad {A = Cert} (Err error) (λ l. refused_line road bytes ≡ Some l) → CarriableAnswers road bytes (Err (Refused CertRule.C2 line))
+read_refused road bytes line error none is h = inr (inl (short_of road bytes none, (line, (told_line line (refused_line road bytes) error is h, refl))))
 
 no_carriable : (road : Road) → IsAccepted road → (bytes : List ℕ) (rule : CertRule) (line : ℕ) → IsFirstCarryRefusal road bytes (refused rule line) → IsNoCarriableText road bytes
 no_carriable road a bytes rule line (inl r) = λ cert v. let short = v.short in let long = r.0 in omega (arith, short, long)

@@ -1,5 +1,5 @@
 -- What one pass over the bytes finds is what they spell.
-use Rattle.std.proofs.Common.{◌≡◌, ℕ, Option, Ok, Err, List, [], codes, refl, sym, ap, subst, ◌∙◌, arith}
+use Rattle.std.proofs.Common.{◌≡◌, ℕ, Option, ◌+◌, Ok, Err, List, [], codes, refl, sym, ap, subst, ◌∙◌, arith}
 use Rattle.std.specs.Prelude.{⊤}
 use Rattle.numbers.specs.Fractions.{Fraction}
 use Rattle.text_parts.specs.Lines.{Reading}

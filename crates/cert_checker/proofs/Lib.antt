@@ -5,3 +5,4 @@ pub mod FindLaws
 pub mod CheckLaws
 pub mod OneRefusal
 pub mod CarryLaws
+pub mod WidthLaws

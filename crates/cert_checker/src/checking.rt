@@ -7,6 +7,7 @@ ghost use Rattle.plan_text.specs.PlanText.{HasText};
 ghost use Rattle.cert_text.specs.CertText.{IsStated, IsPricedOrNone};
 ghost use Rattle.cert_text.specs.Validity.{longest_text, stated_cost};
 ghost use Rattle.cert_checker.specs.Answered.{IsProved, SoundTreesBound};
+ghost use Rattle.cert_checker.specs.Widths.{HasNarrowValues};
 ghost use Rattle.cert_checker.specs.Refusals.{first_of, IsPlanRefusal, last_refusal, Answers, RefusesRightly, HasOneRefusal};
 ghost use Rattle.cert_checker.specs.Carriable.{IsRuleRefusal, IsFirstCarryRefusal, CarriableAnswers, RefusesUncarriable, HasOneCarryRefusal};
 ghost use Rattle.cert_checker.specs.inside.Findings.{bound_tried, FindsOrLine, AreFound, EndsText, IsFirstOfFindings, IsFirstLasting, TellsLasting, TellsRefusal, AnswersBy};
@@ -198,6 +199,18 @@ fn find(alloc: Global, road: &Road, bytes: &[u8], tried: Tried) -> Result<Findin
     }
 }
 
+/// What is refused behind the plan: in the tree, or that a bound stands or doesn't.
+fn rest_refusal(findings: &Findings) -> Option<Refusal>
+    ensures { result ≡ first_of findings.now.walked.found (last_refusal findings.now.heading.bound findings.now.walked.has_low findings.now.bound_line) }
+{
+    let last = last_refusal(
+        &findings.heading.bound,
+        findings.walked.has_low,
+        findings.bound_line,
+    );
+    first_of(findings.walked.found, last)
+}
+
 /// The first refusal of what was found.
 fn first_refusal(road: &Road, findings: &Findings) -> Option<Refusal>
     requires accepted { road_fault road.now ≡ None }
@@ -209,12 +222,7 @@ fn first_refusal(road: &Road, findings: &Findings) -> Option<Refusal>
         &findings.heading.planned,
         findings.bound_line.saturating_sub(1),
     );
-    let last = last_refusal(
-        &findings.heading.bound,
-        findings.walked.has_low,
-        findings.bound_line,
-    );
-    first_of(planned, first_of(findings.walked.found, last))
+    first_of(planned, rest_refusal(findings))
 }
 
 /// The stated cost.
@@ -284,14 +292,15 @@ fn answer_bytes(alloc: Global, road: &Road, bytes: &[u8]) -> Result<Checked, Che
 /// Checks a certificate of an accepted road, from any maker. `Ok`, with the stated cost and bound, comes exactly where the bytes are the
 /// text of a valid certificate, of at most 2^26 bytes: then the cost is that of an admissible plan which stands in the bytes, no
 /// admissible plan costs less than the bound, and without a bound no plan is admissible. `Refused` tells the first broken rule with its
-/// line. One leaf is held at a time.
+/// line. One leaf is held at a time. None is refused for a width: the values and what they are compared with have at most 126 bits.
 pub fn check(alloc: Global, road: &Road, bytes: &[u8]) -> Result<Checked, CheckErr>
     requires { road_fault road.now ≡ None }
     ensures answer { Answers road.now bytes.now result }
     ensures rightly { RefusesRightly road.now bytes.now result }
     ensures proved { IfOk result (IsProved road.now bytes.now) }
     ensures one { HasOneRefusal road.now bytes.now }
-    ensures bounds { SoundTreesBound road.now }
+    ensures any_sound { SoundTreesBound road.now }
+    ensures narrow { HasNarrowValues road.now }
 {
     answer_bytes(alloc, road, bytes)
 }
@@ -302,13 +311,8 @@ fn lasting_refusal(road: &Road, findings: &Findings) -> Option<Refusal>
     requires planned { IsPricedOrNone road.now findings.now.heading.planned }
     ensures { IsFirstLasting road.now findings.now result }
 {
-    let planned = rule_refusal(road, &findings.heading.planned);
-    let last = last_refusal(
-        &findings.heading.bound,
-        findings.walked.has_low,
-        findings.bound_line,
-    );
-    first_of(planned, first_of(findings.walked.found, last))
+    let broken = rule_refusal(road, &findings.heading.planned);
+    first_of(broken, rest_refusal(findings))
 }
 
 /// Tells a refusal, if there is one.

@@ -1,3 +1,4 @@
+use Rattle.std.proofs.Common.{rules}
 use Rattle.road_types.proofs.AcceptedRoad.{IsAccepted-from_fault}
 use Rattle.cert_checker.proofs.CarryLaws.{read_carriable, read_refused}
 use Rattle.cert_checker.proofs.checking.read_tried.Goals as goal
@@ -8,4 +9,4 @@ returns-in-Ok c =
 
 pub returns-in-Err-Bad : goal.returns-in-Err-Bad
 returns-in-Err-Bad c =
-    read_refused c.args.road.now c.args.bytes.now c.in-Err-Bad.line c.requires.tried c.in-Err-Bad.ensures.line
+    read_refused c.args.road.now c.args.bytes.now c.in-Err-Bad.line c.in-Err-Bad.field-0 c.requires.tried (search rules) c.in-Err-Bad.ensures.line
