@@ -14,6 +14,7 @@ use Rattle.milp_builder.specs.Parts.{first_part, second_part}
 use Rattle.milp_builder.specs.declared.boxes.BoxRange.{BoxRange}
 use Rattle.cert_tree.specs.Trees.{BoxTree, low, dead, fork, AreMultipliersBehind}
 use Rattle.cert_tree.specs.Soundness.{told_value, AreSound, SplitsFit, has_low}
+use Rattle.cert_tree.specs.Proving.{AreSigned, HasProvingLeaves}
 use Rattle.cert_tree.proofs.LeafLemmas.{box_rows}
 use Rattle.cert_text.specs.declared.cert.Cert.{Cert}
 use Rattle.cert_text.specs.declared.heading.PricedPlan.{PricedPlan}
@@ -21,8 +22,7 @@ use Rattle.cert_text.specs.NodeText.{most_levels, IsSpelledTree}
 use Rattle.cert_text.specs.CertText.{Certificate, IsCertText}
 use Rattle.cert_text.specs.Certs.{certificate_of, IsTextOf}
 use Rattle.cert_text.specs.Misfits.{refused_line}
-use Rattle.cert_text.specs.Validity.{IsBoundRight, longest_text}
-use Rattle.cert_checker.specs.Temporary.{AreSigned, HasProvingLeaves, IsPlanAdmissible, IsCarriable}
+use Rattle.cert_text.specs.Validity.{IsBoundRight, IsPlanAdmissible, IsCarriable, longest_text}
 use Rattle.cert_text.specs.inside.CertReading.{cert_of_text}
 use Rattle.cert_text.proofs.CertLaws.{cert_of_text-found, cert_of_text-exact}
 use Rattle.cert_text.proofs.MisfitLaws.{refused_line-is}

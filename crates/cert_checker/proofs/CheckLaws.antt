@@ -6,7 +6,6 @@ use Rattle.road_types.specs.Accepted.{IsAccepted}
 use Rattle.milp_builder.specs.Boxes.{root_box}
 use Rattle.cert_tree.specs.Trees.{BoxTree}
 use Rattle.cert_tree.specs.Soundness.{has_low}
-use Rattle.cert_tree.proofs.Lift.{sound_bounds}
 use Rattle.cert_text.specs.declared.heading.PricedPlan.{PricedPlan}
 use Rattle.cert_text.specs.NodeText.{most_levels}
 use Rattle.cert_text.specs.CertText.{Certificate, IsCertText, IsPricedOrNone}
@@ -24,7 +23,7 @@ use Rattle.cert_checker.specs.declared.checking.Tried.{Tried}
 use Rattle.cert_checker.specs.declared.checking.Tried.TheVariants.{Everything}
 use Rattle.cert_checker.specs.Refusals.{refused, first_of, IsTreeRefusal, IsPlanRefusal, last_refusal, IsCertRefusal, IsFirstRefusal, Answers, IsNoValidText, RefusesRightly}
 use Rattle.cert_text.specs.Validity.{IsPlannedRight, IsBoundRight, IsValid, longest_text, IsAttained, IsUnbeaten, stated_cost}
-use Rattle.cert_checker.specs.Answered.{IsProved, IsAnswerOf, SoundTreesBound}
+use Rattle.cert_checker.specs.Answered.{IsProved, IsAnswerOf}
 use Rattle.cert_checker.specs.inside.Findings.{AreFound, IsFirstOfFindings, AnswersBy}
 use Rattle.cert_checker.proofs.ValidLaws.{first_none, none_first, StatesLow, sound_tree, sound_unrefused}
 
@@ -138,9 +137,6 @@ refuses_rightly road a bytes (Err (Refused rule line)) h = no_valid road a bytes
 refuses_rightly road a bytes (Err NoMemory) h = tt
 
 -- ---- what is proved
-
-pub sound_trees : (road : Road) → IsAccepted road → SoundTreesBound road
-sound_trees road a bound tree box den fits sound = sound_bounds road a bound den tree box fits sound
 
 attained : (road : Road) (bytes : List ℕ) (cert : Certificate) (planned : Option PricedPlan) → IsCertText road bytes cert → cert.planned ≡ planned → IsPlannedRight road planned → IfSome (stated_cost planned) (IsAttained road bytes)
 attained road bytes cert None text is h = tt

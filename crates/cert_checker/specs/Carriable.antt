@@ -10,8 +10,7 @@ use Rattle.cert_text.specs.declared.cert.Cert.{Cert}
 use Rattle.cert_text.specs.declared.heading.PricedPlan.{PricedPlan}
 use Rattle.cert_text.specs.CertText.{Certificate, IsCertText}
 use Rattle.cert_text.specs.Certs.{certificate_of, IsTextOf}
-use Rattle.cert_text.specs.Validity.{longest_text}
-use Rattle.cert_checker.specs.Temporary.{IsCarriable}
+use Rattle.cert_text.specs.Validity.{longest_text, IsCarriable}
 use Rattle.cert_checker.specs.declared.refusal.CertRule.TheVariants.{C3}
 use Rattle.cert_checker.specs.declared.refusal.Refusal.{Refusal}
 use Rattle.cert_checker.specs.declared.refusal.CheckErr.{CheckErr}

@@ -2,5 +2,4 @@ pub mod Answered
 pub mod Widths
 pub mod Refusals
 pub mod Carriable
-pub mod Temporary
 pub mod inside

@@ -1,3 +1,4 @@
 pub mod Trees
 pub mod Soundness
 pub mod LeastBounds
+pub mod Proving

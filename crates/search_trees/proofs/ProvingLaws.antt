@@ -17,7 +17,7 @@ use Rattle.cert_tree.proofs.LeafLemmas.{on_rows}
 use Rattle.cert_tree.proofs.Lift.{sound_bounds}
 use Rattle.cert_tree.specs.declared.tree.Tree.{Tree}
 use Rattle.search_trees.specs.RootedTrees.{RootedTree, FitsRoad}
-use Rattle.search_trees.specs.Proving.{AreSigned, HasProvingLeaves}
+use Rattle.cert_tree.specs.Proving.{AreSigned, HasProvingLeaves}
 use Rattle.search_trees.proofs.LeastLemmas.{neither}
 
 are_sound : (road : Road) (box : BoxRange) (mults : List (ℕ × ℤ)) → AreMultipliersBehind (row_count road) 0 mults → AreSigned road box mults → AreSound road box mults
