@@ -1,5 +1,5 @@
 -- What is refused of a certificate but for its stated costs, and that nothing is refused exactly where its bound can be carried.
-use Rattle.std.proofs.Common.{◌≡◌, inl, inr, ℕ, ℤ, pos, zero, suc, ◌+◌, ◌-◌, ◌≤◌, ◌<ℤ◌, Option, Some, None, Result, Ok, Err, List, length, refl, sym, ap, ap₂, subst, ◌∙◌, arith}
+use Rattle.std.proofs.Common.{◌≡◌, inl, inr, ℕ, ℤ, pos, zero, suc, ◌+◌, ◌≤◌, ◌<ℤ◌, Option, Some, None, Result, Ok, Err, List, length, refl, sym, ap, ap₂, subst, ◌∙◌, arith}
 use Rattle.std.specs.Prelude.{⊤}
 use Rattle.road_types.specs.declared.road.Road.{Road}
 use Rattle.road_types.specs.Accepted.{IsAccepted}
@@ -7,7 +7,6 @@ use Rattle.road_types.specs.RoadPrograms.{row_count as road_row_count}
 use Rattle.plan_text.specs.declared.error.TextErr.{TextErr}
 use Rattle.plan_text.specs.declared.error.TextErr.TheVariants.{Bad, NoMemory as NoRoom}
 use Rattle.plan_text.specs.Misfits.{IfBad}
-use Rattle.safe_bounds.proofs.SparseLemmas.{signs_of_pairs}
 use Rattle.milp_builder.specs.Boxes.{root_box}
 use Rattle.milp_builder.specs.BoxPrograms.{box_program}
 use Rattle.milp_builder.specs.Parts.{first_part, second_part}
@@ -22,7 +21,7 @@ use Rattle.cert_text.specs.NodeText.{most_levels, IsSpelledTree}
 use Rattle.cert_text.specs.CertText.{Certificate, IsCertText}
 use Rattle.cert_text.specs.Certs.{certificate_of, IsTextOf}
 use Rattle.cert_text.specs.Misfits.{refused_line}
-use Rattle.cert_text.specs.Validity.{IsBoundRight, IsPlanAdmissible, IsCarriable, longest_text}
+use Rattle.cert_text.specs.Validity.{IsPlanAdmissible, IsCarriable, longest_text}
 use Rattle.cert_text.specs.inside.CertReading.{cert_of_text}
 use Rattle.cert_text.proofs.CertLaws.{cert_of_text-found, cert_of_text-exact}
 use Rattle.cert_text.proofs.MisfitLaws.{refused_line-is}
@@ -32,7 +31,7 @@ use Rattle.cert_checker.specs.declared.refusal.CheckErr.{CheckErr}
 use Rattle.cert_checker.specs.declared.refusal.CheckErr.TheVariants.{Refused, NoMemory}
 use Rattle.cert_checker.specs.declared.checking.Findings.{Findings}
 use Rattle.cert_checker.specs.declared.checking.Tried.TheVariants.{Lasting}
-use Rattle.cert_checker.specs.Refusals.{refused, first_of, low_refusal, dead_refusal, line_count, FindsNext, IsTreeRefusal, last_refusal, IsFirstRefusalBy}
+use Rattle.cert_checker.specs.Refusals.{refused, first_of, low_refusal, dead_refusal, line_count, FindsNext, IsTreeRefusal, last_refusal}
 use Rattle.cert_checker.specs.Carriable.{IsRuleRefusal, IsCarryRefusal, IsFirstCarryRefusal, IsCarriableText, CarriableAnswers, IsNoCarriableText, RefusesUncarriable}
 use Rattle.cert_checker.specs.inside.Findings.{AreFound, IsFirstLasting, TellsLasting, TellsRefusal}
 use Rattle.cert_checker.proofs.ValidLaws.{first_none, none_first, are_sound, no_sign, value_met, met_value}

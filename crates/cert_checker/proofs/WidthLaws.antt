@@ -1,9 +1,8 @@
 -- The values of leaves on the boxes of a road, and what they are compared with, are narrow.
-use Rattle.std.proofs.Common.{ℕ, ℤ, pos, neg_ℤ, ◌≤◌, ◌^◌, ◌*ℤ◌, ◌≤ℤ◌, unsigned_abs, List, refl, arith}
+use Rattle.std.proofs.Common.{ℕ, ℤ, ◌≤◌, ◌^◌, ◌*ℤ◌, unsigned_abs, List, refl, arith}
 use Rattle.std.proofs.lemmas.Int.{ints}
 use Rattle.algebra.specs.Scale.{IsScale, greatest_scale}
 use Rattle.algebra.proofs.Magnitudes.{unsigned_abs_le, unsigned_abs_mul_le}
-use Rattle.numbers.specs.Fractions.{Fraction}
 use Rattle.programs.specs.Programs.{row_count, column_count}
 use Rattle.safe_bounds.specs.Sparse.{dense}
 use Rattle.safe_bounds.proofs.ColumnsLemmas.{part_small}
@@ -15,10 +14,9 @@ use Rattle.milp_builder.specs.BoxPrograms.{box_program}
 use Rattle.milp_builder.specs.declared.boxes.BoxRange.{BoxRange}
 use Rattle.milp_builder.proofs.BoxLimits.{box_within_limits}
 use Rattle.cert_tree.specs.Trees.{AreMultipliersBehind}
-use Rattle.cert_tree.specs.Soundness.{box_value, box_mults}
+use Rattle.cert_tree.specs.Soundness.{box_value}
 use Rattle.cert_tree.proofs.LeafLemmas.{are_multipliers, on_rows}
-use Rattle.cert_text.specs.CertText.{IsStated}
-use Rattle.cert_checker.specs.Widths.{IsNarrowComparison, HasNarrowValues}
+use Rattle.cert_checker.specs.Widths.{HasNarrowValues}
 
 scale_small : (x : ℤ) → IsScale x → unsigned_abs x ≤ greatest_scale
 scale_small x h =

@@ -4,7 +4,7 @@ use Rattle.std.proofs.lemmas.Result.{MatchResult-at_err}
 use Rattle.text_parts.specs.Lines.{Reading}
 use Rattle.cert_text.specs.declared.step.Step.{Step}
 use Rattle.cert_text.specs.Misfits.{Misfit, tree_or, trees_or, IsMisfitOfTrees}
-use Rattle.cert_text.specs.inside.NodeReading.{root_on, tree_due}
+use Rattle.cert_text.specs.inside.NodeReading.{root_on}
 use Rattle.cert_text.specs.inside.StepReading.{Steps}
 use Rattle.cert_text.proofs.MisfitLaws.{tree_skips}
 use Rattle.cert_text.proofs.ReadLaws.{tree_bad}
