@@ -46,8 +46,8 @@ use Rattle.branch_bound.specs.declared.work.Work.{Work}
 one_range : (first second : ℕ) (program : Program) (budget : ℕ) (end : LpEnd) (used : Used) → IsEndOfEither first second program budget end used → IsEnd second program budget end
 one_range first second program budget (BestEnd trail den point scale mults) First h = h.0
 one_range first second program budget (Empty trail numbers scale mults) First h = h.0
-one_range first second program budget (PivotsEnd trail scale mults) First h = h.0
-one_range first second program budget (WideEnd trail op scale mults) First h = absurd h.1
+one_range first second program budget (PivotsEnd trail scale mults rough) First h = h.0
+one_range first second program budget (WideEnd trail op scale mults rough) First h = absurd h.1
 one_range first second program budget end (Second trail op) h = h.0
 
 pub end_of_either : (first second greatest : ℕ) (program : Program) (budget given : ℕ) (end : LpEnd) (used : Used) → second ≡ greatest → given ≡ budget

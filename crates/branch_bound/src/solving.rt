@@ -121,7 +121,9 @@ fn solve_end(
             trail,
             scale,
             mults,
+            rough,
         } => {
+            drop(rough);
             let note = NodeNote::Pivots {
                 trail: Listed::new(trail),
             };
@@ -132,7 +134,9 @@ fn solve_end(
             op,
             scale,
             mults,
+            rough,
         } => {
+            drop(rough);
             let note = NodeNote::Wide {
                 trail: Listed::new(trail),
                 op,

@@ -3,7 +3,7 @@ pub mod RootBox
 pub mod Cover
 pub mod BoxLaws
 pub mod PointLemmas
-pub mod SmallVolumes
+pub mod ComparingLemmas
 pub mod ShownLemmas
 pub mod BoxWeights
 pub mod BoxLimits

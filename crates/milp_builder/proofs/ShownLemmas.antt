@@ -1,10 +1,9 @@
 -- Steps of the search for the plan that a point shows.
 use Rattle.std.proofs.Common.{◌≡◌, ℕ, suc, ◌+◌, ◌-◌, ◌≤◌, ◌<◌, Option, Some, None, List, [], ◌∷◌, ◌++◌, length, get_or, arith, ap, sym, ◌∙◌, refl, subst, ⊎_elim, inl, inr}
-use Rattle.std.specs.Prelude.{ℤ, pos, ◌-ℤ◌, unsigned_abs, ◌^◌, if◌then◌else◌}
+use Rattle.std.specs.Prelude.{ℤ, pos, if◌then◌else◌}
 use Rattle.std.specs.Ordering.{int_eq}
 use Rattle.std.proofs.lemmas.Bool.{cases_lt}
 use Rattle.algebra.specs.Lists.{list_to}
-use Rattle.algebra.proofs.Magnitudes.{unsigned_abs_sub_le}
 use Rattle.road_types.specs.Numbered.{numbered, IsNumber}
 use Rattle.road_types.specs.Road.{section, section_count, segment_count, hop_count, access_count, block_count}
 use Rattle.road_types.specs.Columns.{columns_of, column_number}
@@ -24,7 +23,7 @@ use Rattle.road_points.proofs.OnlyPlan.{same_parts}
 use Rattle.milp_builder.specs.Boxes.{IsBoxOf}
 use Rattle.milp_builder.specs.BoxPrograms.{box_program}
 use Rattle.milp_builder.specs.FoundPlans.{HasPartRemoval, IsOtherVolume, IsPlanOfPoint, IsFoundPlan}
-use Rattle.milp_builder.specs.inside.SmallPoints.{HasSmallVolumes, IsShownPlan}
+use Rattle.milp_builder.specs.inside.ShownPlans.{IsShownPlan}
 use Rattle.milp_builder.specs.declared.boxes.BoxRange.{BoxRange}
 use Rattle.milp_builder.proofs.BoxLaws.{points_are_plans, shown_plan_is}
 
@@ -75,11 +74,6 @@ unfolding zeros_to
 zeros_more h n =
     let s : n + 1 ≡ suc n = omega arith in
     ap (zeros_to h) s ∙ ap (λ k. zeros_to h n + (if int_eq (h k) (pos 0) then 1 else 0)) (sym s)
-
--- ---- widths
-
-pub moved_width : (road : Road) (point : List ℤ) → HasSmallVolumes road point → (i t : ℕ) → unsigned_abs (shown road point (Fill i t) -ℤ shown road point (Cut i t)) ≤ 2 ^ 88
-moved_width road point h i t = unsigned_abs_sub_le (shown road point (Fill i t)) (shown road point (Cut i t)) (2 ^ 87) (2 ^ 87) (h.fill i t) (h.cut i t)
 
 -- ---- the whole plan
 

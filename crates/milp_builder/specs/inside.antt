@@ -1,2 +1,2 @@
-pub mod SmallPoints
+pub mod ShownPlans
 pub mod Amounts

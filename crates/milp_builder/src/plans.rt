@@ -5,13 +5,15 @@ ghost use Rattle.programs.specs.Points.{IsPoint};
 ghost use Rattle.road_types.specs.Faults.{road_fault};
 ghost use Rattle.road_types.specs.WellFormed.{IsWellFormed};
 ghost use Rattle.road_types.specs.Columns.{columns_of};
+ghost use Rattle.road_points.specs.Shown.{HasWholeRemovals, HasExactVolumes};
 ghost use Rattle.milp_builder.specs.Boxes.{IsBoxOf};
 ghost use Rattle.milp_builder.specs.BoxPrograms.{box_program};
-ghost use Rattle.milp_builder.specs.FoundPlans.{IsFoundPlan, PointsArePlans};
-ghost use Rattle.milp_builder.specs.inside.SmallPoints.{HasSmallVolumes, IsShownPlan};
+ghost use Rattle.milp_builder.specs.Comparing.{HasComparableVolumes};
+ghost use Rattle.milp_builder.specs.FoundPlans.{IsPlanOfPoint, IsFoundPlan, PointsArePlans};
+ghost use Rattle.milp_builder.specs.inside.ShownPlans.{IsShownPlan};
 
 use crate::boxes::BoxRange;
-use crate::shown::{other_volume, part_removal};
+use crate::showing::{other_volume, part_removal};
 use crate::shown_plan::shown_plan;
 use plan_rules::Plan;
 use road_types::Road;
@@ -37,6 +39,26 @@ pub fn plan_of(
     whole_plan(alloc, road, den, point)
 }
 
+/// The one admissible plan over a denominator whose point this is, for a point of a box's program with whole removals and exact
+/// volumes: inside the box.
+pub fn exact_plan(
+    alloc: Global,
+    road: &Road,
+    range: &BoxRange,
+    den: i128,
+    point: &[i128],
+) -> Result<Plan, AllocError>
+    requires accepted { road_fault road.now ≡ None }
+    requires fits { IsBoxOf road.now range.now }
+    requires den { IsScale den }
+    requires point { IsPoint (box_program road.now range.now) den point.now }
+    requires whole { HasWholeRemovals road.now den point.now }
+    requires exact { HasExactVolumes road.now den point.now }
+    ensures { IfOk result (λ plan. IsPlanOfPoint road.now range.now den point.now plan) }
+{
+    shown_plan(alloc, road, den, point)
+}
+
 /// The plan that the point shows, where its removals are whole and its volumes exact.
 fn whole_plan(
     alloc: Global,
@@ -47,7 +69,7 @@ fn whole_plan(
     requires well_formed { IsWellFormed road.now }
     requires columns { length point.now ≡ length (columns_of road.now) }
     requires den { IsScale den }
-    requires small { HasSmallVolumes road.now point.now }
+    requires small { HasComparableVolumes road.now point.now }
     ensures { IfOk result (λ plan. IsShownPlan road.now den point.now plan) }
 {
     if let Some(_at) = part_removal(road, den, point) {

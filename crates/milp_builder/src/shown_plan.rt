@@ -11,7 +11,7 @@ ghost use Rattle.road_points.specs.ShownPlan.{table_to, piece_at, opening_at, pl
 ghost use Rattle.milp_builder.specs.inside.Amounts.{column_in};
 
 use crate::amounts::{Amount, column_in};
-use crate::shown::shown;
+use crate::showing::shown;
 use plan_rules::{Piece, Plan};
 use road_types::{Column, Listed, Road};
 use std::alloc::{AllocError, Global};

@@ -209,8 +209,8 @@ wider small big numbers l h = λ k d m. let n = h k d m in omega arith
 pub within_wider : (small big : ℕ) (end : LpEnd) → small ≤ big → HasNumbersWithin small end → HasNumbersWithin big end
 within_wider small big (Best trail den point scale mults) l h = wider small big mults.items l h
 within_wider small big (Empty trail numbers scale mults) l h = (wider small big numbers.items l h.0, wider small big mults.items l h.1)
-within_wider small big (Pivots trail scale mults) l h = wider small big mults.items l h
-within_wider small big (Wide trail op scale mults) l h = wider small big mults.items l h
+within_wider small big (Pivots trail scale mults rough) l h = wider small big mults.items l h
+within_wider small big (Wide trail op scale mults rough) l h = wider small big mults.items l h
 
 pub zeros_within : (greatest count : ℕ) (list : List ℤ) → list ≡ list_to (λ _. pos 0) count → AreWithin greatest list
 zeros_within greatest count list e =

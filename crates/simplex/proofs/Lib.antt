@@ -9,7 +9,7 @@ pub mod Starting
 pub mod Ratios
 pub mod Breaks
 pub mod Selections
-pub mod Surveying
+pub mod PricingLemmas
 pub mod Denominators
 pub mod Bridges
 pub mod Endings

@@ -1,6 +1,6 @@
 -- How a linear program ends, each end with the trail of good exchanges that shows it: with an optimum; with a ray that no point allows;
 -- with the budget of exchanges spent; or with an operation whose exact value is out of range.
-use Rattle.std.specs.Prelude.{◌≡◌, ℕ, ◌≤◌, List, length, ℤ, pos, ◌*ℤ◌, ◌≤ℤ◌, ◌<ℤ◌, unsigned_abs}
+use Rattle.std.specs.Prelude.{◌≡◌, ℕ, ◌≤◌, List, [], length, ℤ, pos, ◌*ℤ◌, ◌≤ℤ◌, ◌<ℤ◌, unsigned_abs}
 use Rattle.std.specs.List.{All}
 use Rattle.programs.specs.Programs.{Program}
 use Rattle.programs.specs.Points.{IsPoint, cost_of_point}
@@ -10,7 +10,7 @@ use Rattle.tableau.specs.Exchanges.{IsOutside}
 use Rattle.tableau.specs.Trails.{IsAfter}
 use Rattle.tableau.specs.Ends.{IsOptimal, IsEmptyRow}
 use Rattle.tableau.specs.OwnNumbers.{scale_of, multipliers_of, ray_of, IsPointOf}
-use Rattle.tableau.specs.Operations.{IsOutOfRangeAfter}
+use Rattle.tableau.specs.Operations.{IsOutOfRangeAfter, IsWideStart}
 use Rattle.tableau.specs.declared.bound.Bound.{Bound}
 use Rattle.tableau.specs.declared.exchange.Exchange.{Exchange}
 use Rattle.tableau.specs.declared.op.Op.{Op}
@@ -82,11 +82,16 @@ pub record IsWide (greatest : ℕ) (program : Program) (budget : ℕ) (trail : L
 abbrev pub IsEnd : ℕ → Program → ℕ → LpEnd → Type 0
 IsEnd greatest program budget (Best trail den point scale mults) = IsOptimum program budget trail.items den point.items scale mults.items
 IsEnd greatest program budget (Empty trail numbers scale mults) = IsDead program budget trail.items numbers.items scale mults.items
-IsEnd greatest program budget (Pivots trail scale mults) = IsSpent program budget trail.items scale mults.items
-IsEnd greatest program budget (Wide trail op scale mults) = IsWide greatest program budget trail.items op scale mults.items
+IsEnd greatest program budget (Pivots trail scale mults rough) = IsSpent program budget trail.items scale mults.items
+IsEnd greatest program budget (Wide trail op scale mults rough) = IsWide greatest program budget trail.items op scale mults.items
+
+-- before any exchange, the end names a number with which the tableau is started and which is above the greatest
+abbrev pub IsWideAtStart : ℕ → Program → LpEnd → Type 0
+IsWideAtStart greatest program (Wide trail op scale mults rough) = (trail.items ≡ []) × IsWideStart greatest (given_of program) op
+IsWideAtStart greatest program end = ⊥
 
 abbrev pub IsWithinRange : LpEnd → Type 0
-IsWithinRange (Wide trail op scale mults) = ⊥
+IsWithinRange (Wide trail op scale mults rough) = ⊥
 IsWithinRange end = Unit {0}
 
 -- the end is that of numbers of the first range, where none was out of it; or it is that of the second range, since on the tableau
@@ -103,5 +108,5 @@ AreWithin greatest numbers = All (λ y. unsigned_abs y ≤ greatest) numbers
 abbrev pub HasNumbersWithin : ℕ → LpEnd → Type 0
 HasNumbersWithin greatest (Best trail den point scale mults) = AreWithin greatest mults.items
 HasNumbersWithin greatest (Empty trail numbers scale mults) = AreWithin greatest numbers.items × AreWithin greatest mults.items
-HasNumbersWithin greatest (Pivots trail scale mults) = AreWithin greatest mults.items
-HasNumbersWithin greatest (Wide trail op scale mults) = AreWithin greatest mults.items
+HasNumbersWithin greatest (Pivots trail scale mults rough) = AreWithin greatest mults.items
+HasNumbersWithin greatest (Wide trail op scale mults rough) = AreWithin greatest mults.items

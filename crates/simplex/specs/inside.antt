@@ -2,7 +2,7 @@ pub mod Rows
 pub mod Kept
 pub mod Filled
 pub mod Choices
-pub mod Surveys
+pub mod Pricing
 pub mod Slacks
 pub mod Joins
 pub mod OwnOptima

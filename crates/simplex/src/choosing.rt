@@ -1,241 +1,175 @@
-// Which bound a basic value breaks, and which column is to enter.
-ghost use Rattle.std.specs.Prelude.{◌≡◌, ◌≢◌, ◌↔◌, ◌⊎◌, ◌+◌, ◌-◌, ◌*◌, ◌<◌, ◌≤◌, ℕ, true, false, length, slice_index_or, ℤ, pos, ◌+ℤ◌, IfOk, IfErr, IfSome, IfNone, IsTrue, unsigned_abs};
-ghost use Rattle.tableau.specs.Signs.{IsOppositeSign, IsSameSign};
-ghost use Rattle.tableau.specs.Exchanges.{IsToward};
-ghost use Rattle.tableau.specs.declared.bound.Bound.TheVariants.{Lower, Upper};
-ghost use Rattle.sparse_rows.specs.Lines.{IsLine};
-ghost use Rattle.sparse_rows.specs.Sums.{meaning_at};
-ghost use Rattle.simplex.specs.inside.Choices.{IsBroken, IsChosen, IsWideRatio, IsWideSum, MayEnter};
+// The choice of an exchange: pricing finds the row, the ratio test the column.
+ghost use Rattle.std.specs.Prelude.{◌≡◌, ◌≢◌, ◌⊎◌, ◌<◌, [], slice_index_or, IfOk, IfErr, IfSome, IfNone, nat_lt, if◌then◌else◌};
+ghost use Rattle.tableau.specs.Tableaux.{IsRow};
+ghost use Rattle.tableau.specs.Exchanges.{IsOutside};
+ghost use Rattle.programs.specs.Programs.{row_count};
+ghost use Rattle.tableau.specs.Ends.{IsEmptyRow};
+ghost use Rattle.tableau.specs.declared.bound.Bound.{Bound};
+ghost use Rattle.tableau.specs.Operations.{IsOutOfRange};
+ghost use Rattle.simplex.specs.Choices.{IsChoice};
+ghost use Rattle.simplex.specs.States.{tableau_of};
+ghost use Rattle.simplex.specs.inside.Choices.{IsChosen};
+ghost use Rattle.simplex.specs.inside.Pricing.{IsPriced};
 
-use crate::signs::{is_opposite_sign, is_positive, is_same_sign};
-use numbers::Whole;
-use sparse_rows::{entry, is_negative, product_of, row_sum, widened};
-use std::cmp::Ordering;
-use tableau::Bound;
-use term_store::Term;
+use crate::choice::Choice;
+use crate::pricing::broken_bound;
+use crate::ratio_test::entering_column;
+use crate::table::Tableau;
+use numbers::{W128, Whole};
+use sparse_rows::{entry, is_zero};
+use tableau::{Bound, Exchange, Op};
 
-/// The bound that a row's basic value breaks, and by how much about, in the units of the column. `Err` with the column of a
-/// number in the sum for it that is out of T's range.
-pub(crate) fn broken_bound<W: Whole, T: Whole>(
-    row: &[Term<W>],
-    basic: u32,
-    low: &[W],
-    high: &[W],
-    has_high: &[bool],
-    at_high: &[bool],
-) -> Result<Option<(Bound, u128)>, u32>
-    requires wider { W.greatest ≤ T.greatest }
-    requires high { length high.now ≡ length low.now }
-    requires has_high { length has_high.now ≡ length low.now }
-    requires at_high { length at_high.now ≡ length low.now }
-    requires basic { (1 ≤ basic) × (basic < length low.now) }
-    requires line { IsLine W.meaning 1 (length low.now) row.now }
-    ensures broken { IfOk result (λ o. IfSome o (λ (bound, _). IsBroken W.meaning row.now basic low.now high.now has_high.now at_high.now bound)) }
-    ensures not_low { IfOk result (λ o. IfNone o (IsBroken W.meaning row.now basic low.now high.now has_high.now at_high.now Lower → ⊥)) }
-    ensures not_high { IfOk result (λ o. IfNone o (IsBroken W.meaning row.now basic low.now high.now has_high.now at_high.now Upper → ⊥)) }
-    ensures wide { IfErr result (λ j. IsWideSum W.meaning row.now basic low.now high.now has_high.now at_high.now T.greatest j) }
-    ensures column { IfErr result (λ j. (1 ≤ j) × (j < length low.now)) }
+/// The row of the least-numbered basic column of those outside, 0 where there is none, the bound that it breaks, and that
+/// column; and another row outside with its bound.
+type Pricing = ((usize, Bound, u32), (usize, Bound, u128));
+
+/// Of two rows outside, the one of the lesser basic column.
+fn lesser(first: (usize, Bound, u32), row: (usize, Bound, u32)) -> (usize, Bound, u32)
+    ensures { result ≡ (if nat_lt row.2 first.2 then row else first) }
 {
-    let rest: T = match row_sum(row, basic, low, high, at_high) {
-        Ok(rest) => rest,
-        Err(column) => return Err(column),
-    };
-    let pivot = entry(row, basic);
-    let place = basic as usize;
-    let Some(at_low) = product_of::<W, T>(pivot, low[place]) else {
-        return Err(basic);
-    };
-    if breaks_low(pivot, rest, at_low) {
-        return Ok(Some((Bound::Lower, excess(rest, at_low, pivot))));
-    }
-    if !has_high[place] {
-        return Ok(None);
-    }
-    let Some(at_top) = product_of::<W, T>(pivot, high[place]) else {
-        return Err(basic);
-    };
-    if breaks_high(pivot, rest, at_top) {
-        return Ok(Some((Bound::Upper, excess(rest, at_top, pivot))));
-    }
-    Ok(None)
+    if row.2 < first.2 { row } else { first }
 }
 
-/// Whether the sum of a row with its basic column at the lower bound has the sign of the basic entry.
-fn breaks_low<W: Whole, T: Whole>(pivot: W, rest: T, at_low: T) -> bool
-    ensures { IsTrue result ↔ IsSameSign (W.meaning pivot) (T.meaning rest +ℤ T.meaning at_low) }
+/// Of two rows outside, the one further outside; the first of them may be none, with the number 0.
+fn larger(largest: (usize, Bound, u128), row: (usize, Bound, u128)) -> (usize, Bound, u128)
+    ensures { (result ≡ row) ⊎ ((result ≡ largest) × (largest.0 ≢ 0)) }
 {
-    let order = rest.negated().order(at_low);
-    if is_negative(pivot) {
-        order == Ordering::Greater
-    } else {
-        is_positive(pivot) && order == Ordering::Less
+    if largest.0 != 0 && row.2 <= largest.2 {
+        return largest;
     }
+    row
 }
 
-/// Whether the sum of a row with its basic column at the upper bound has the other sign than the basic entry.
-fn breaks_high<W: Whole, T: Whole>(pivot: W, rest: T, at_top: T) -> bool
-    ensures { IsTrue result ↔ IsOppositeSign (W.meaning pivot) (T.meaning rest +ℤ T.meaning at_top) }
-{
-    let order = rest.negated().order(at_top);
-    if is_negative(pivot) {
-        order == Ordering::Less
-    } else {
-        is_positive(pivot) && order == Ordering::Greater
-    }
-}
-
-/// About how far a basic value is outside of a bound, in parts of 65,536.
-fn excess<W: Whole, T: Whole>(rest: T, at_bound: T, pivot: W) -> u128 {
-    let gap = rest.wide().saturating_add(at_bound.wide()).unsigned_abs();
-    gap.saturating_mul(65_536) / pivot.wide().unsigned_abs().max(1)
-}
-
-/// The column that enters for a row whose basic value breaks this bound: the first one of the least ratio, `None` where no
-/// column may enter. `Err` with two columns a cross product of whose ratios is out of T's range.
-pub(crate) fn entering_column<W: Whole, T: Whole>(
-    row: &[Term<W>],
-    costs: &[Term<W>],
-    basic: u32,
-    low: &[W],
-    high: &[W],
-    has_high: &[bool],
-    at_high: &[bool],
-    broken: Bound,
-) -> Result<Option<u32>, (u32, u32)>
-    requires wider { W.greatest ≤ T.greatest }
-    requires high { length high.now ≡ length low.now }
-    requires has_high { length has_high.now ≡ length low.now }
-    requires at_high { length at_high.now ≡ length low.now }
-    requires line { IsLine W.meaning 1 (length low.now) row.now }
-    requires costs { IsLine W.meaning 0 (length low.now) costs.now }
-    ensures chosen { IfOk result (λ o. IfSome o (λ c. IsChosen W.meaning row.now basic low.now high.now has_high.now at_high.now costs.now broken c)) }
-    ensures none { IfOk result (λ o. IfNone o ((j : ℕ) → MayEnter W.meaning row.now basic low.now high.now has_high.now at_high.now broken j → ⊥)) }
-    ensures wide { IfErr result (λ (j, k). IsWideRatio W.meaning row.now basic low.now high.now has_high.now at_high.now T.greatest costs.now broken j k) }
-{
-    let pivot = entry(row, basic);
-    let mut best = 0;
-    let mut best_cost = W::one();
-    let mut best_entry = W::zero();
-    for term in row {
-        let column = term.column;
-        if !may_enter(
-            term.value, pivot, column, basic, low, high, has_high, at_high, broken,
-        ) {
-            continue;
-        }
-        let cost = entry(costs, column);
-        let Some(is_less) = is_ratio_less::<W, T>(cost, term.value, best_cost, best_entry) else {
-            return Err((best, column));
+impl<'a, W: Whole> Tableau<'a, W> {
+    /// What is to be done next: the exchange of the least-numbered basic column outside while its ratio is 0, else one of a row
+    /// far outside.
+    pub(crate) fn choose(&self) -> Choice
+        ensures { IsChoice W.greatest (tableau_of W.meaning self.now) result }
+    {
+        let (first, largest) = match self.price_rows() {
+            Ok(priced) => priced,
+            Err(op) => return Choice::Wide(op),
         };
-        if !is_less {
-            continue;
+        if first.0 == 0 {
+            return Choice::Optimal;
         }
-        best = column;
-        best_cost = cost;
-        best_entry = term.value;
+        let column = match self.ratio_test(first.0, first.1) {
+            Ok(Some(column)) => column,
+            Ok(None) => {
+                return Choice::Empty {
+                    row: first.0,
+                    broken: first.1,
+                };
+            }
+            Err(op) => return Choice::Wide(op),
+        };
+        if is_zero(entry(self.lines.row(0), column)) {
+            return Choice::Good(exchange_of(first.0, column));
+        }
+        let other = match self.ratio_test(largest.0, largest.1) {
+            Ok(Some(other)) => other,
+            Ok(None) => {
+                return Choice::Empty {
+                    row: largest.0,
+                    broken: largest.1,
+                };
+            }
+            Err(op) => return Choice::Wide(op),
+        };
+        if is_zero(entry(self.lines.row(0), other)) {
+            return Choice::Good(exchange_of(first.0, column));
+        }
+        Choice::Good(exchange_of(largest.0, other))
     }
-    if best == 0 {
-        return Ok(None);
-    }
-    Ok(Some(best))
-}
 
-/// Whether a column may enter: from its entry and the basic one.
-fn may_enter<W: Whole>(
-    value: W,
-    pivot: W,
-    column: u32,
-    basic: u32,
-    low: &[W],
-    high: &[W],
-    has_high: &[bool],
-    at_high: &[bool],
-    broken: Bound,
-) -> bool
-    requires column { column < length low.now }
-    requires high { length high.now ≡ length low.now }
-    requires has_high { length has_high.now ≡ length low.now }
-    requires at_high { length at_high.now ≡ length low.now }
-    ensures other { IsTrue result → basic ≢ column }
-    ensures movable { IsTrue result → slice_index_or has_high.now column false ≡ true → meaning_at W.meaning low.now column ≢ meaning_at W.meaning high.now column }
-    ensures toward { IsTrue result → IsToward broken (slice_index_or at_high.now column false) (W.meaning value) (W.meaning pivot) }
-    ensures all { basic ≢ column
-        → (slice_index_or has_high.now column false ≡ true → meaning_at W.meaning low.now column ≢ meaning_at W.meaning high.now column)
-        → IsToward broken (slice_index_or at_high.now column false) (W.meaning value) (W.meaning pivot) → IsTrue result }
-{
-    if column == basic {
-        return false;
-    }
-    let place = column as usize;
-    if !is_toward(broken, at_high[place], value, pivot) {
-        return false;
-    }
-    if !has_high[place] {
-        return true;
-    }
-    differ(low[place], high[place])
-}
-
-/// Whether two numbers differ.
-fn differ<W: Whole>(a: W, b: W) -> bool
-    ensures { IsTrue result ↔ (W.meaning a ≢ W.meaning b) }
-{
-    a.order(b) != Ordering::Equal
-}
-
-/// Whether a move from a bound into the range moves the basic value towards the broken bound.
-fn is_toward<W: Whole>(broken: Bound, at_high: bool, value: W, pivot: W) -> bool
-    ensures { IsTrue result ↔ IsToward broken at_high (W.meaning value) (W.meaning pivot) }
-{
-    match broken {
-        Bound::Lower => {
-            if at_high {
-                is_same_sign(pivot, value)
-            } else {
-                is_opposite_sign(pivot, value)
+    /// The rows outside. `Err` with an operation of the sum for a basic value that is out of range.
+    fn price_rows(&self) -> Result<Pricing, Op>
+        ensures priced { IfOk result (λ (first, other). IsPriced (tableau_of W.meaning self.now) (row_count self.now.program)
+            first.0 first.1 first.2 other.0 other.1) }
+        ensures wide { IfErr result (λ op. IsOutOfRange W.greatest (tableau_of W.meaning self.now) op) }
+    {
+        let mut first = (0, Bound::Lower, u32::MAX);
+        let mut largest = (0, Bound::Lower, 0);
+        let rows = self.milp.rows();
+        let basis = self.basis.as_slice();
+        for k in 0..rows {
+            let row = k + 1;
+            match self.outside(row) {
+                Ok(None) => continue,
+                Ok(Some((bound, size))) => {
+                    first = lesser(first, (row, bound, basis[row]));
+                    largest = larger(largest, (row, bound, size));
+                }
+                Err(op) => return Err(op),
             }
         }
-        Bound::Upper => {
-            if at_high {
-                is_opposite_sign(pivot, value)
-            } else {
-                is_same_sign(pivot, value)
-            }
+        Ok((first, largest))
+    }
+
+    /// The bound that the basic value of a row breaks, and by how much about.
+    fn outside(&self, row: usize) -> Result<Option<(Bound, u128)>, Op>
+        requires { IsRow (tableau_of W.meaning self.now) row }
+        ensures outside { IfOk result (λ o. IfSome o (λ (bound, _). IsOutside (tableau_of W.meaning self.now) row bound)) }
+        ensures inside { IfOk result (λ o. IfNone o ((bound : Bound) → IsOutside (tableau_of W.meaning self.now) row bound → ⊥)) }
+        ensures wide { IfErr result (λ op. IsOutOfRange W.greatest (tableau_of W.meaning self.now) op) }
+    {
+        let basis = self.basis.as_slice();
+        match broken_bound::<W, W128>(
+            self.lines.row(row),
+            basis[row],
+            &self.low,
+            &self.high,
+            &self.has_high,
+            &self.at_high,
+        ) {
+            Ok(broken) => Ok(broken),
+            Err(column) => Err(Op::Value {
+                row: row as u16,
+                col: column as u16,
+            }),
+        }
+    }
+
+    /// The column that enters for a row outside.
+    fn ratio_test(&self, row: usize, broken: Bound) -> Result<Option<u32>, Op>
+        requires row { IsRow (tableau_of W.meaning self.now) row }
+        requires outside { IsOutside (tableau_of W.meaning self.now) row broken }
+        ensures chosen { IfOk result (λ o. IfSome o (λ c. IsChosen W.meaning (slice_index_or self.now.lines row []) (slice_index_or self.now.basis row 0)
+            self.now.low self.now.high self.now.has_high self.now.at_high (slice_index_or self.now.lines 0 []) broken c)) }
+        ensures few { IfOk result (λ o. IfSome o (λ c. c < 65536)) }
+        ensures none { IfOk result (λ o. IfNone o (IsEmptyRow (tableau_of W.meaning self.now) row broken)) }
+        ensures wide { IfErr result (λ op. IsOutOfRange W.greatest (tableau_of W.meaning self.now) op) }
+    {
+        let basis = self.basis.as_slice();
+        match entering_column::<W, W128>(
+            self.lines.row(row),
+            self.lines.row(0),
+            basis[row],
+            &self.low,
+            &self.high,
+            &self.has_high,
+            &self.at_high,
+            broken,
+        ) {
+            Ok(column) => Ok(column),
+            Err((column, other)) => Err(Op::Ratio {
+                row: row as u16,
+                col: column as u16,
+                other: other as u16,
+            }),
         }
     }
 }
 
-/// Whether the ratio of a cost entry to a row entry is less than another one, by magnitudes. `None` where a cross product is
-/// out of T's range.
-fn is_ratio_less<W: Whole, T: Whole>(
-    cost: W,
-    value: W,
-    other_cost: W,
-    other_value: W,
-) -> Option<bool>
-    requires { W.greatest ≤ T.greatest }
-    ensures less { IfSome result (λ is_less. IsTrue is_less
-        ↔ (unsigned_abs (W.meaning cost) * unsigned_abs (W.meaning other_value) < unsigned_abs (W.meaning other_cost) * unsigned_abs (W.meaning value))) }
-    ensures wide { IfNone result ((T.greatest < unsigned_abs (W.meaning cost) * unsigned_abs (W.meaning other_value))
-        ⊎ (T.greatest < unsigned_abs (W.meaning other_cost) * unsigned_abs (W.meaning value))) }
+/// The exchange of a row and a column.
+fn exchange_of(row: usize, column: u32) -> Exchange
+    requires row { row < 65536 }
+    requires column { column < 65536 }
+    ensures row { result.row ≡ row }
+    ensures col { result.col ≡ column }
 {
-    let left: T = product_of_magnitudes(cost, other_value)?;
-    let right: T = product_of_magnitudes(other_cost, value)?;
-    Some(left.order(right) == Ordering::Less)
-}
-
-/// The product of two magnitudes.
-fn product_of_magnitudes<W: Whole, T: Whole>(a: W, b: W) -> Option<T>
-    requires { W.greatest ≤ T.greatest }
-    ensures value { IfSome result (λ z. T.meaning z ≡ pos (unsigned_abs (W.meaning a) * unsigned_abs (W.meaning b))) }
-    ensures wide { IfNone result (T.greatest < unsigned_abs (W.meaning a) * unsigned_abs (W.meaning b)) }
-{
-    product_of(magnitude(a), magnitude(b))
-}
-
-/// The magnitude of a number.
-pub(crate) fn magnitude<W: Whole>(v: W) -> W
-    ensures { W.meaning result ≡ pos (unsigned_abs (W.meaning v)) }
-{
-    if is_negative(v) { v.negated() } else { v }
+    Exchange {
+        row: row as u16,
+        col: column as u16,
+    }
 }

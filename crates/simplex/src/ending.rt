@@ -15,7 +15,7 @@ use tableau::Op;
 
 impl<'a, W: Whole> Tableau<'a, W> {
     /// The sum of a row without its basic column. `Err` with an operation of it that is out of range.
-    fn rest(&self, row: usize) -> Result<W128, Op>
+    pub(crate) fn rest(&self, row: usize) -> Result<W128, Op>
         requires { IsRow (tableau_of W.meaning self.now) row }
         ensures sum { IfOk result (λ z. ⟦<W128 as Whole>⟧.meaning z ≡ rest (tableau_of W.meaning self.now) row) }
         ensures wide { IfErr result (λ op. IsOutOfRange W.greatest (tableau_of W.meaning self.now) op) }
@@ -125,7 +125,7 @@ impl<'a, W: Whole> Tableau<'a, W> {
     }
 
     /// The bound at which a structural column stands where it isn't basic.
-    fn bound_of(&self, column: usize) -> W
+    pub(crate) fn bound_of(&self, column: usize) -> W
         requires first { 1 ≤ column }
         requires last { column ≤ column_count self.now.program }
         ensures { W.meaning result ≡ standing (tableau_of W.meaning self.now) column }
@@ -134,7 +134,7 @@ impl<'a, W: Whole> Tableau<'a, W> {
     }
 
     /// The row whose basic column this structural one is.
-    fn row_of(&self, column: usize) -> Option<usize>
+    pub(crate) fn row_of(&self, column: usize) -> Option<usize>
         requires { column ≤ column_count self.now.program }
         ensures some { IfSome result (λ i. IsRow (tableau_of W.meaning self.now) i × (slice_index_or self.now.basis i 0 ≡ column)) }
         ensures none { IfNone result (IsNonbasic (tableau_of W.meaning self.now) column) }
@@ -149,6 +149,7 @@ impl<'a, W: Whole> Tableau<'a, W> {
         requires room { column_count self.now.program ≤ vec_capacity point.old }
         requires optimal { IsOptimal (tableau_of W.meaning self.now) }
         requires least { IsLeastDenominator (tableau_of W.meaning self.now) (row_count self.now.program) (⟦<W128 as Whole>⟧.meaning den) }
+        ensures capacity { vec_capacity point.new ≡ vec_capacity point.old }
         ensures count { IfOk result (λ _. length point.new.items ≡ column_count self.now.program) }
         ensures coordinates { IfOk result (λ _. (x : ℕ → ℤ) → IsPointOfTableau (tableau_of W.meaning self.now) (⟦<W128 as Whole>⟧.meaning den) x
             → (j : ℕ) → 1 ≤ j → j ≤ column_count self.now.program → numbered (pos 0) point.new.items j ≡ x j) }

@@ -3,7 +3,7 @@ ghost use Rattle.std.specs.Prelude.{◌≡◌, ◌≢◌, ◌<◌, ◌≤◌, �
 ghost use Rattle.numbers.specs.Divisors.{Divides};
 ghost use Rattle.simplex.specs.inside.Joins.{IsJoined};
 
-use crate::choosing::magnitude;
+use crate::signs::magnitude;
 use numbers::Whole;
 use sparse_rows::widened;
 

@@ -2,7 +2,9 @@
 use tableau::{Exchange, Op};
 
 /// How a linear program ends. A trail holds the good exchanges from the start; points have a numerator for each column, and
-/// rays and multipliers a number for each row. The value of scale and multipliers bounds the costs times the scale.
+/// rays and multipliers a number for each row. The value of scale and multipliers bounds the costs times the scale. Where there is
+/// no optimum, `rough` says about what each column is, in parts of 1,024: a hint of which nothing is claimed. It has no number
+/// where the program itself is out of range.
 #[derive(Debug, Drop)]
 pub enum LpEnd {
     /// The point over `den` has the least cost: its cost times `scale` is the value of the multipliers times `den`.
@@ -25,6 +27,7 @@ pub enum LpEnd {
         trail: Vec<Exchange>,
         scale: i128,
         mults: Vec<i128>,
+        rough: Vec<i128>,
     },
     /// The operation has an exact value out of range.
     Wide {
@@ -32,6 +35,7 @@ pub enum LpEnd {
         op: Op,
         scale: i128,
         mults: Vec<i128>,
+        rough: Vec<i128>,
     },
 }
 

@@ -1,5 +1,5 @@
-// Signs of numbers, and which bound they tell.
-ghost use Rattle.std.specs.Prelude.{◌≡◌, ◌↔◌, ℤ, pos, ◌<ℤ◌, IsTrue};
+// Signs and magnitudes of numbers, and which bound signs tell.
+ghost use Rattle.std.specs.Prelude.{◌≡◌, ◌↔◌, ℤ, pos, ◌<ℤ◌, IsTrue, unsigned_abs};
 ghost use Rattle.tableau.specs.Signs.{IsOppositeSign, IsSameSign};
 ghost use Rattle.tableau.specs.Exchanges.{IsToward};
 ghost use Rattle.tableau.specs.declared.bound.Bound.{Bound};
@@ -48,4 +48,11 @@ pub(crate) fn breaks_upper<W: Whole>(basic: W, entry: W, at_high: bool) -> bool
     } else {
         is_same_sign(basic, entry)
     }
+}
+
+/// The magnitude of a number.
+pub(crate) fn magnitude<W: Whole>(v: W) -> W
+    ensures { W.meaning result ≡ pos (unsigned_abs (W.meaning v)) }
+{
+    if is_negative(v) { v.negated() } else { v }
 }

@@ -7,8 +7,9 @@ ghost use Rattle.tableau.specs.Ends.{IsEmptyRow, IsOptimal};
 ghost use Rattle.tableau.specs.Operations.{IsOutOfRange, IsWideNumber};
 ghost use Rattle.tableau.specs.OwnNumbers.{ray_of};
 ghost use Rattle.simplex.specs.Choices.{IsChoice, StopsAfter};
-ghost use Rattle.simplex.specs.Ends.{AreOwnNumbers, AreWithin, HasNumbersWithin, IsEnd, IsEndOfEither, IsReached};
+ghost use Rattle.simplex.specs.Ends.{AreOwnNumbers, AreWithin, HasNumbersWithin, IsEnd, IsEndOfEither, IsReached, IsWideAtStart};
 ghost use Rattle.simplex.specs.Givens.{given_of};
+ghost use Rattle.simplex.specs.Starts.{IsInRange};
 ghost use Rattle.simplex.specs.States.{tableau_of};
 ghost use Rattle.simplex.specs.inside.OwnOptima.{IsOwnOptimum};
 ghost use Rattle.simplex.specs.inside.Rooms.{IsRoomBehind, IsRoomFor};
@@ -84,6 +85,7 @@ impl<'a, W: Whole> Tableau<'a, W> {
         requires none { point.old.items ≡ [] }
         requires room { column_count self.now.program ≤ vec_capacity point.old }
         requires optimal { IsOptimal (tableau_of W.meaning self.now) }
+        ensures capacity { vec_capacity point.new ≡ vec_capacity point.old }
         ensures optimum { IfOk result (λ den. IsOwnOptimum self.now.program (tableau_of W.meaning self.now) den point.new.items) }
         ensures wide { IfErr result (λ op. IsOutOfRange W.greatest (tableau_of W.meaning self.now) op) }
     {
@@ -122,12 +124,17 @@ impl<'a, W: Whole> Tableau<'a, W> {
                     scale,
                     mults,
                 },
-                Err(op) => LpEnd::Wide {
-                    trail,
-                    op,
-                    scale,
-                    mults,
-                },
+                Err(op) => {
+                    point.clear();
+                    self.fill_rough(&mut point);
+                    LpEnd::Wide {
+                        trail,
+                        op,
+                        scale,
+                        mults,
+                        rough: point,
+                    }
+                }
             },
             Choice::Empty { row, broken } => {
                 self.fill_ray(row, broken, &mut ray);
@@ -138,17 +145,25 @@ impl<'a, W: Whole> Tableau<'a, W> {
                     mults,
                 }
             }
-            Choice::Good(_) => LpEnd::Pivots {
-                trail,
-                scale,
-                mults,
-            },
-            Choice::Wide(op) => LpEnd::Wide {
-                trail,
-                op,
-                scale,
-                mults,
-            },
+            Choice::Good(_) => {
+                self.fill_rough(&mut point);
+                LpEnd::Pivots {
+                    trail,
+                    scale,
+                    mults,
+                    rough: point,
+                }
+            }
+            Choice::Wide(op) => {
+                self.fill_rough(&mut point);
+                LpEnd::Wide {
+                    trail,
+                    op,
+                    scale,
+                    mults,
+                    rough: point,
+                }
+            }
         }
     }
 }
@@ -163,10 +178,12 @@ fn end_at_start(rows: usize, row: usize, col: usize, room: Room) -> LpEnd
     requires room { rows ≤ vec_capacity room.mults }
     ensures end { (greatest : ℕ) (program : Program) (budget : ℕ) → row_count program ≡ rows → IsWideNumber greatest (given_of program) row col
         → IsEnd greatest program budget result }
+    ensures at_start { (greatest : ℕ) (program : Program) → IsWideNumber greatest (given_of program) row col → IsWideAtStart greatest program result }
     ensures within { (greatest : ℕ) → HasNumbersWithin greatest result }
 {
     let Room {
         trail,
+        point,
         mut mults,
         ..
     } = room;
@@ -179,6 +196,7 @@ fn end_at_start(rows: usize, row: usize, col: usize, room: Room) -> LpEnd
         },
         scale: 1,
         mults,
+        rough: point,
     }
 }
 
@@ -194,10 +212,12 @@ fn fill_zeros(count: usize, list: &mut Vec<i128>)
 }
 
 /// Runs the dual simplex over numbers of W's range, by at most `budget` exchanges. All memory, that of the answer too, is
-/// taken at the start. `AllocError` where it can't be had.
+/// taken at the start. Where a number of the program is out of range, the end is `Wide` with an empty trail and the place of such a
+/// number. `AllocError` where memory can't be had.
 pub fn solve<W: Whole>(alloc: Global, lp: &Lp<'_>, budget: u32) -> Result<LpEnd, AllocError>
     requires { 1 ≤ budget }
     ensures end { IfOk result (λ end. IsEnd W.greatest lp.now.milp.now budget end) }
+    ensures at_start { IfOk result (λ end. (IsInRange W.greatest (given_of lp.now.milp.now) → ⊥) → IsWideAtStart W.greatest lp.now.milp.now end) }
     ensures within { IfOk result (λ end. HasNumbersWithin W.greatest end) }
 {
     let columns = lp.milp.columns();
@@ -230,9 +250,11 @@ pub fn solve_either<N: Whole, M: Whole>(
             trail,
             op,
             mults,
+            rough,
             ..
         } => {
             drop(mults);
+            drop(rough);
             match solve::<M>(alloc, lp, budget) {
                 Ok(end) => Ok((end, Used::Second { trail, op })),
                 Err(error) => {

@@ -5,10 +5,12 @@ ghost use Rattle.tableau.specs.Tableaux.{IsStart};
 ghost use Rattle.tableau.specs.Programs.{HasSlacks};
 ghost use Rattle.tableau.specs.Exchanges.{IsGood, IsResult};
 ghost use Rattle.tableau.specs.Operations.{IsOutOfRange, IsWideNumber};
+ghost use Rattle.tableau.specs.declared.op.Op.TheVariants.{Cell};
 ghost use Rattle.tableau.specs.Laws.{HasLaws, MakesRowsZero};
 ghost use Rattle.simplex.specs.Givens.{given_of};
 ghost use Rattle.simplex.specs.States.{KeepsLaws, State, tableau_of};
 ghost use Rattle.simplex.specs.Starts.{IsInRange};
+ghost use Rattle.simplex.specs.Refusals.{IsCellOf};
 
 use crate::filling::{all_false, fill_numbers, slack_basis};
 use crate::lp::Lp;
@@ -122,14 +124,33 @@ impl<'a, W: Whole> Tableau<'a, W> {
         }
     }
 
-    /// Makes a good exchange; it takes no memory. `Err` with an operation of the exchange whose exact value is out of W's
-    /// range; the tableau is then as before.
+    /// Makes a good exchange; it takes no memory. `Err` with a cell of the exchange whose exact value is out of W's range; the
+    /// tableau is then as before.
     pub fn exchange(&mut self, swap: Exchange) -> Result<(), Op>
         requires { IsGood (tableau_of W.meaning self.old) swap }
         ensures program { self.new.program ≡ self.old.program }
         ensures result { IfOk result (λ _. IsResult (tableau_of W.meaning self.old) swap (tableau_of W.meaning self.new)) }
         ensures same { IfErr result (λ _. self.new ≡ self.old) }
+        ensures cell { IfErr result (λ op. IsCellOf swap op) }
         ensures wide { IfErr result (λ op. IsOutOfRange W.greatest (tableau_of W.meaning self.old) op) }
+        ensures laws { HasLaws (tableau_of W.meaning self.new) }
+        ensures points { (y : ℕ → ℤ) → MakesRowsZero (tableau_of W.meaning self.new) y ↔ HasSlacks (given_of self.new.program) y }
+    {
+        match self.change(swap) {
+            Ok(()) => Ok(()),
+            Err((row, col)) => Err(cell_of(swap, row, col)),
+        }
+    }
+
+    /// Makes a good exchange. `Err` with the row and the column of a cell that is out of range; the tableau is then as before.
+    fn change(&mut self, swap: Exchange) -> Result<(), (usize, u32)>
+        requires { IsGood (tableau_of W.meaning self.old) swap }
+        ensures program { self.new.program ≡ self.old.program }
+        ensures result { IfOk result (λ _. IsResult (tableau_of W.meaning self.old) swap (tableau_of W.meaning self.new)) }
+        ensures same { IfErr result (λ _. self.new ≡ self.old) }
+        ensures wide { IfErr result (λ (row, col). IsOutOfRange W.greatest (tableau_of W.meaning self.old) (Cell swap row col)) }
+        ensures row { IfErr result (λ (row, col). row < 65536) }
+        ensures col { IfErr result (λ (row, col). col < 65536) }
         ensures laws { HasLaws (tableau_of W.meaning self.new) }
         ensures points { (y : ℕ → ℤ) → MakesRowsZero (tableau_of W.meaning self.new) y ↔ HasSlacks (given_of self.new.program) y }
     {
@@ -145,14 +166,21 @@ impl<'a, W: Whole> Tableau<'a, W> {
             swap.col as u32,
         ) {
             Ok(()) => {}
-            Err((row, col)) => {
-                return Err(Op::Cell {
-                    swap,
-                    row: row as u16,
-                    col: col as u16,
-                });
-            }
+            Err((row, col)) => return Err((row, col)),
         }
         Ok(())
+    }
+}
+
+/// The operation that names a cell of an exchange.
+fn cell_of(swap: Exchange, row: usize, col: u32) -> Op
+    requires row { row < 65536 }
+    requires col { col < 65536 }
+    ensures { result ≡ Cell swap row col }
+{
+    Op::Cell {
+        swap,
+        row: row as u16,
+        col: col as u16,
     }
 }

@@ -4,9 +4,9 @@ use Rattle.std.proofs.lemmas.Int.{to_z-of_z}
 use Rattle.road_types.proofs.AcceptedRoad.{IsAccepted-from_fault}
 use Rattle.plan_rules.specs.declared.plan.Plan.{Plan}
 use Rattle.milp_builder.specs.FoundPlans.{IsFoundPlan}
-use Rattle.milp_builder.specs.inside.SmallPoints.{IsShownPlan}
+use Rattle.milp_builder.specs.inside.ShownPlans.{IsShownPlan}
 use Rattle.milp_builder.proofs.BoxLaws.{points_are_plans}
-use Rattle.milp_builder.proofs.SmallVolumes.{small_volumes}
+use Rattle.milp_builder.proofs.ComparingLemmas.{scale_comparable, comparable_volumes}
 use Rattle.milp_builder.proofs.ShownLemmas.{found_from_shown}
 use Rattle.milp_builder.proofs.plans.plan_of.Goals as goal
 
@@ -15,7 +15,8 @@ whole_plan-requires-clause-well_formed c = (IsAccepted-from_fault c.args.road.no
 
 pub whole_plan-requires-clause-small : goal.whole_plan-requires-clause-small
 whole_plan-requires-clause-small c =
-    small_volumes c.args.road.now (IsAccepted-from_fault c.args.road.now c.requires.accepted).well_formed c.args.range.now c.requires.fits c.args.den c.requires.den c.args.point.now c.requires.point
+    comparable_volumes c.args.road.now (IsAccepted-from_fault c.args.road.now c.requires.accepted).well_formed c.args.range.now c.requires.fits c.args.den
+    (scale_comparable c.args.den c.requires.den) c.args.point.now c.requires.point
 
 pub returns-clause-found : goal.returns-clause-found
 returns-clause-found c =

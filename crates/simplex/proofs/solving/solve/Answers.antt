@@ -19,3 +19,6 @@ returns-in-Err-clause-end g c =
 
 pub returns-in-Err-clause-within : goal.returns-in-Err-clause-within
 returns-in-Err-clause-within g c = c.end_at_start.ensures.within g.W.Whole.greatest
+
+pub returns-in-Err-clause-at_start : goal.returns-in-Err-clause-at_start
+returns-in-Err-clause-at_start g c = λ _. c.end_at_start.ensures.at_start g.W.Whole.greatest c.args.lp.now.milp.now (rw c.in-Err.is at c.in_ok-tableau.ensures.wide)
