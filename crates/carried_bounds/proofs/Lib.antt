@@ -1,0 +1,7 @@
+pub mod PairsLemmas
+pub mod LeafLaws
+pub mod TreeLaws
+pub mod LowestLemmas
+pub mod CostWidths
+pub mod StatedLaws
+pub mod CarryLaws
