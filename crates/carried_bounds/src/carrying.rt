@@ -5,7 +5,7 @@ ghost use Rattle.cert_text.specs.Certs.{certificate_of, IsSpelledCert};
 ghost use Rattle.cert_text.specs.Validity.{IsCarriable};
 ghost use Rattle.carried_bounds.specs.Carried.{IsCarried};
 
-use crate::pricing::priced;
+use crate::pricing::price_plan;
 use crate::trees::bounded_tree;
 use cert_text::Cert;
 use road_types::Road;
@@ -24,7 +24,7 @@ pub fn carry(alloc: Global, road: &Road, cert: &Cert) -> Result<Cert, AllocError
     ensures spelled { IfOk result (IsSpelledCert road.now) }
 {
     let bounded = bounded_tree(alloc, road, &cert.tree)?;
-    match priced(alloc, road, &cert.plan) {
+    match price_plan(alloc, road, &cert.plan) {
         Ok(priced) => Ok(Cert {
             plan: priced.plan,
             cost: priced.cost,

@@ -21,7 +21,7 @@ pub struct Priced {
 }
 
 /// A copy of the plan with its cost, where there is a plan.
-pub(crate) fn priced(alloc: Global, road: &Road, plan: &Option<Plan>) -> Result<Priced, AllocError>
+pub(crate) fn price_plan(alloc: Global, road: &Road, plan: &Option<Plan>) -> Result<Priced, AllocError>
     requires accepted { road_fault road.now ≡ None }
     requires plan { CanBePriced road.now plan.now }
     ensures { IfOk result (λ priced. ArePriced road.now plan.now priced.plan priced.cost) }
