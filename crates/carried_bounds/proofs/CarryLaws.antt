@@ -1,6 +1,6 @@
 -- What a carried plan and a carried tree make together.
 use Rattle.std.proofs.Common.{◌≡◌, ℕ, Option, Some, None, Bool, true, false, List, refl, sym, ap, subst, ◌∙◌}
-use Rattle.std.specs.Prelude.{ℤ}
+use Rattle.std.specs.Prelude.{ℤ, Result, Ok, Err, IfOk}
 use Rattle.numbers.specs.Fractions.{Fraction}
 use Rattle.road_types.specs.Faults.{road_fault}
 use Rattle.road_types.specs.Accepted.{IsAccepted}
@@ -17,6 +17,7 @@ use Rattle.cert_tree.specs.Trees.{BoxTree, box_tree_of, IsWithinWidths}
 use Rattle.cert_tree.specs.Soundness.{SplitsFit, IsSound}
 use Rattle.cert_tree.specs.LeastBounds.{IsLeastOfLeaves}
 use Rattle.cert_tree.specs.Proving.{HasProvingLeaves}
+use Rattle.cert_tree.specs.declared.tree.Tree.{Tree}
 use Rattle.cert_text.specs.declared.cert.Cert.{Cert}
 use Rattle.cert_text.specs.NodeText.{most_levels}
 use Rattle.cert_text.specs.CertText.{IsPricedOrNone}
@@ -24,6 +25,7 @@ use Rattle.cert_text.specs.Certs.{priced_of, ArePaired, certificate_of, IsSpelle
 use Rattle.cert_text.specs.Validity.{IsPlannedRight, IsPlanAdmissible, IsCarriable}
 use Rattle.search_trees.proofs.ProvingLaws.{sound_within, sound_without}
 use Rattle.carried_bounds.specs.Carried.{IsCarried, IsCarriedTree, stated_plan}
+use Rattle.carried_bounds.specs.declared.trees.Bounded.{Bounded}
 use Rattle.carried_bounds.specs.inside.Risen.{AreBounded, ArePriced, CanBePriced}
 use Rattle.carried_bounds.proofs.TreeLaws.{splits_stay, widths_stay, leaves_prove, text_stays, widths_of_text, least_is_right}
 use Rattle.carried_bounds.proofs.StatedLaws.{bound_stated}
@@ -33,6 +35,16 @@ sound_least : (road : Road) (tree : BoxTree) (box : BoxRange) (bound : Option Fr
     → IsLeastOfLeaves road tree box bound → IsSound road bound tree box
 sound_least road tree box None s w p h = sound_without road tree box s w p h
 sound_least road tree box (Some bound) s w p h = sound_within road bound tree box s w p h.1
+
+-- a carried tree with its least bound, where memory was had
+pub bounded_found : {E : Type 0} (road : Road) (given : BoxTree) (carried : Tree) (root : BoxRange) (result : Result Bounded E) → root ≡ root_box road → IsCarriedTree road given root (box_tree_of carried)
+    → IfOk result (λ (b : Bounded). b.tree ≡ carried) → IfOk result (λ (b : Bounded). IsLeastOfLeaves road (box_tree_of carried) root b.bound)
+    → IfOk result (λ (b : Bounded). AreBounded road given (box_tree_of b.tree) b.bound)
+bounded_found road given carried root (Ok b) e c t l = record {
+  tree = subst (λ (x : Tree). IsCarriedTree road given (root_box road) (box_tree_of x)) (sym t) (subst (λ (x : BoxRange). IsCarriedTree road given x (box_tree_of carried)) e c);
+  bound = subst (λ (x : Tree). IsLeastOfLeaves road (box_tree_of x) (root_box road) b.bound) (sym t) (subst (λ (x : BoxRange). IsLeastOfLeaves road (box_tree_of carried) x b.bound) e l);
+}
+bounded_found road given carried root (Err error) e c t l = t
 
 -- ---- the plan
 

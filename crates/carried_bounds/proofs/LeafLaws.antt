@@ -1,6 +1,6 @@
 -- The multipliers of a leaf after an ascent, as they are written down.
 use Rattle.std.proofs.Common.{◌≡◌, ℕ, ◌≤◌, List, length, take, sym, ap, subst, arith, ◌∙◌, inl, inr, ⊎_elim}
-use Rattle.std.specs.Prelude.{ℤ, ◌<ℤ◌}
+use Rattle.std.specs.Prelude.{ℤ, ◌<ℤ◌, Result, Ok, Err, IfOk}
 use Rattle.std.proofs.lemmas.List.{take_all}
 use Rattle.programs.specs.Programs.{Program, row_count}
 use Rattle.safe_bounds.specs.Values.{value_of, HasRightSigns}
@@ -11,6 +11,7 @@ use Rattle.milp_builder.specs.declared.boxes.BoxRange.{BoxRange}
 use Rattle.cert_tree.specs.Trees.{AreMultipliersBehind}
 use Rattle.cert_tree.specs.Soundness.{told_value}
 use Rattle.cert_tree.specs.Written.{IsWritten}
+use Rattle.cert_tree.specs.Proving.{AreSigned}
 use Rattle.cert_tree.proofs.LeafLemmas.{are_multipliers}
 use Rattle.bound_tools.specs.Ascents.{AreAllowed, RoseOrIsBest, IsBestByOnes}
 use Rattle.carried_bounds.specs.Carried.{AreCarried}
@@ -43,3 +44,20 @@ pub carried_on : (road : Road) (box : BoxRange) (program : Program) (scale : ℤ
 carried_on road box program scale given carried e h =
     let here = subst (λ p. AreRisen p scale given carried) e h in
     record { sound = record { on_rows = here.on_rows; right_signs = here.right_signs }; risen = here.above }
+
+-- the signs on a box are those on its program
+pub signed_on : (road : Road) (box : BoxRange) (program : Program) (mults : List (ℕ × ℤ)) → program ≡ box_program road box → AreSigned road box mults → HasRightSigns program (dense (row_count program) mults)
+signed_on road box program mults e h = subst (λ p. HasRightSigns p (dense (row_count p) mults)) (sym e) h
+
+-- ---- where memory was had
+
+pub risen_found : {E : Type 0} (program : Program) (scale : ℤ) (given : List (ℕ × ℤ)) (new last : List ℤ) (result : Result (List (ℕ × ℤ)) E) → AreMultipliersBehind (row_count program) 0 given → AreAllowed program new
+    → RoseOrIsBest program scale (dense (row_count program) given) new → last ≡ new → IfOk result (λ (pairs : List (ℕ × ℤ)). IsWritten last (length last) pairs)
+    → IfOk result (λ (pairs : List (ℕ × ℤ)). AreRisen program scale given pairs)
+risen_found program scale given new last (Ok pairs) on allowed risen e w = risen_written program scale given pairs new on allowed risen (subst (λ ys. IsWritten ys (length ys) pairs) e w)
+risen_found program scale given new last (Err error) on allowed risen e w = w
+
+pub carried_found : {E : Type 0} (road : Road) (box : BoxRange) (program : Program) (scale : ℤ) (given : List (ℕ × ℤ)) (result : Result (List (ℕ × ℤ)) E) → program ≡ box_program road box
+    → IfOk result (λ (pairs : List (ℕ × ℤ)). AreRisen program scale given pairs) → IfOk result (λ (pairs : List (ℕ × ℤ)). AreCarried road box scale given pairs)
+carried_found road box program scale given (Ok pairs) e h = carried_on road box program scale given pairs e h
+carried_found road box program scale given (Err error) e h = h

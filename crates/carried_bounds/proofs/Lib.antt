@@ -1,4 +1,5 @@
 pub mod PairsLemmas
+pub mod CopyLemmas
 pub mod LeafLaws
 pub mod TreeLaws
 pub mod LowestLemmas

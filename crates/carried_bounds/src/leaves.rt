@@ -1,5 +1,5 @@
 // The multipliers of one leaf.
-ghost use Rattle.std.specs.Prelude.{None, IfOk};
+ghost use Rattle.std.specs.Prelude.{◌≡◌, None, IfOk};
 ghost use Rattle.algebra.specs.Scale.{IsScale};
 ghost use Rattle.programs.specs.Programs.{row_count};
 ghost use Rattle.safe_bounds.specs.Values.{HasRightSigns};

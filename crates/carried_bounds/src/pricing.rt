@@ -96,6 +96,7 @@ fn copied_plan(alloc: Global, plan: &Plan) -> Result<Plan, AllocError>
 }
 
 /// A copy of lists of numbers.
+#[tactic(auto, using(crate::proofs::CopyLemmas::row_copied))]
 fn copied_table(
     alloc: Global,
     rows: &[Listed<i128>],

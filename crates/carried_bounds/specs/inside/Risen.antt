@@ -36,6 +36,6 @@ ArePriced road (Some plan) (Some copy) (Some cost) = (copy ≡ plan) × IsCostOf
 ArePriced road _ _ _ = ⊥
 
 -- a carried tree on the box of all plans, with the least of its leaves' bounds
-pub record AreBounded (road : Road) (given carried : BoxTree) (bound : Option Fraction) : Type 0 where
+pub record AreBounded (road : Road) (given carried : BoxTree) (least : Option Fraction) : Type 0 where
   pub tree : IsCarriedTree road given (root_box road) carried
-  pub bound : IsLeastOfLeaves road carried (root_box road) bound
+  pub bound : IsLeastOfLeaves road carried (root_box road) least
