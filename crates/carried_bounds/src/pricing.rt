@@ -21,7 +21,11 @@ pub struct Priced {
 }
 
 /// A copy of the plan with its cost, where there is a plan.
-pub(crate) fn price_plan(alloc: Global, road: &Road, plan: &Option<Plan>) -> Result<Priced, AllocError>
+pub(crate) fn price_plan(
+    alloc: Global,
+    road: &Road,
+    plan: &Option<Plan>,
+) -> Result<Priced, AllocError>
     requires accepted { road_fault road.now ≡ None }
     requires plan { CanBePriced road.now plan.now }
     ensures { IfOk result (λ priced. ArePriced road.now plan.now priced.plan priced.cost) }
@@ -97,10 +101,7 @@ fn copied_plan(alloc: Global, plan: &Plan) -> Result<Plan, AllocError>
 
 /// A copy of lists of numbers.
 #[tactic(auto, using(crate::proofs::CopyLemmas::row_copied))]
-fn copied_table(
-    alloc: Global,
-    rows: &[Listed<i128>],
-) -> Result<Listed<Listed<i128>>, AllocError>
+fn copied_table(alloc: Global, rows: &[Listed<i128>]) -> Result<Listed<Listed<i128>>, AllocError>
     ensures { IfOk result (λ copy. copy ≡ rows.now) }
 {
     let mut copy = Vec::new(alloc);

@@ -40,7 +40,12 @@ pub(crate) fn bounded_tree(alloc: Global, road: &Road, tree: &Tree) -> Result<Bo
 }
 
 /// The tree with the least of its leaves' bounds on a box.
-fn with_bound(alloc: Global, road: &Road, tree: Tree, range: &BoxRange) -> Result<Bounded, AllocError>
+fn with_bound(
+    alloc: Global,
+    road: &Road,
+    tree: Tree,
+    range: &BoxRange,
+) -> Result<Bounded, AllocError>
     requires accepted { road_fault road.now ≡ None }
     requires fits { IsBoxOf road.now range.now }
     requires splits { SplitsFit road.now (box_tree_of tree) range.now }
