@@ -21,7 +21,8 @@ use Rattle.simplex.specs.Ends.{IsDead}
 use Rattle.branch_bound.specs.Optima.{exchange_budget}
 use Rattle.branch_bound.specs.Stops.{IsGreatestMagnitude, IsRayPastLimit}
 use Rattle.branch_bound.specs.inside.Grown.{grown_of, dead_leaf}
-use Rattle.branch_bound.specs.inside.Proving.{IsWritten, IsGreatestOf}
+use Rattle.cert_tree.specs.Written.{IsWritten}
+use Rattle.branch_bound.specs.inside.Proving.{IsGreatestOf}
 use Rattle.branch_bound.specs.inside.Solving.{IsStoppedLeaf, IsStopWith, AreDeadMults, IsDeadLeaf, IsLimitLeaf}
 use Rattle.branch_bound.specs.declared.notes.NodeNote.TheVariants.{Limit}
 use Rattle.branch_bound.specs.declared.work.Work.{Work}

@@ -21,7 +21,8 @@ use Rattle.branch_bound.specs.Optima.{exchange_budget}
 use Rattle.branch_bound.specs.Stops.{IsStop, HasPlanWithin}
 use Rattle.branch_bound.specs.inside.Better.{IsNoDearer}
 use Rattle.branch_bound.specs.inside.Grown.{Grown, dead_leaf, whole_leaf, stopped_leaf, waiting_leaf, grown_of, IsGrownLeaf, IsGoodNode}
-use Rattle.branch_bound.specs.inside.Proving.{IsProvedOn, IsWritten, IsNumberPastLimit}
+use Rattle.cert_tree.specs.Written.{IsWritten}
+use Rattle.branch_bound.specs.inside.Proving.{IsProvedOn, IsNumberPastLimit}
 use Rattle.branch_bound.specs.inside.Searches.{best_cost, IsBest}
 use Rattle.branch_bound.specs.declared.notes.NodeNote.{NodeNote}
 use Rattle.branch_bound.specs.declared.work.Proved.{Proved}

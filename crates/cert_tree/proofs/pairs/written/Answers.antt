@@ -2,9 +2,10 @@ use Rattle.std.proofs.Common.{rules, FitsSigned, ◌+◌, sym, subst, ◌≡◌,
 use Rattle.std.specs.Prelude.{ℤ}
 use Rattle.std.specs.Int.{w128}
 use Rattle.std.proofs.lemmas.Int.{to_z-of_z}
-use Rattle.branch_bound.specs.inside.Proving.{IsWritten, pushed_unless_zero}
-use Rattle.branch_bound.proofs.ProvingLemmas.{written_more}
-use Rattle.branch_bound.proofs.proving.written.Goals as goal
+use Rattle.cert_tree.specs.Written.{IsWritten}
+use Rattle.cert_tree.specs.inside.Pushed.{pushed_unless_zero}
+use Rattle.cert_tree.proofs.WrittenLemmas.{written_more}
+use Rattle.cert_tree.proofs.pairs.written.Goals as goal
 
 pub loop-before-preserved : goal.loop-before-preserved
 loop-before-preserved c =
