@@ -117,6 +117,15 @@ fn hop_metres(road: &Road, hop: usize) -> i128
     times(i128::from(road.step), steps)
 }
 
+/// What is hauled in both directions.
+fn in_both(right: i128, left: i128) -> i128
+    requires right { unsigned_abs right ≤ 10 ^ 14 * 2 ^ 40 }
+    requires left { unsigned_abs left ≤ 10 ^ 14 * 2 ^ 40 }
+    ensures { result ≡ right +ℤ left }
+{
+    plus(right, left)
+}
+
 /// The haul moment over a hop in a stage.
 fn hop_moment(road: &Road, plan: &Plan, stage: usize, hop: usize) -> i128
     requires well_formed { IsWellFormed road.now }
@@ -125,7 +134,7 @@ fn hop_moment(road: &Road, plan: &Plan, stage: usize, hop: usize) -> i128
     requires hop { IsNumber hop (hop_count road.now) }
     ensures { result ≡ hop_moment road.now plan.now stage hop }
 {
-    let both = plus(
+    let both = in_both(
         amount_at(&plan.right, stage, hop),
         amount_at(&plan.left, stage, hop),
     );
