@@ -39,14 +39,15 @@ use Rattle.branch_bound.specs.Endings.{HasPlanAt, HasOpenBelow, IsNoStop, HasNoS
 use Rattle.branch_bound.specs.Found.{IsFound}
 use Rattle.branch_bound.specs.Noted.{Noted, low_with, dead_with, fork_with, tree_of, notes_of, IsShownLow, AreShown}
 use Rattle.branch_bound.specs.Searched.{IsSearched}
-use Rattle.roadopt_program.specs.declared.forms.Verb.TheVariants.{Check, Replay, Solve}
+use Rattle.roadopt_program.specs.declared.ending.Product.{Product}
+use Rattle.roadopt_program.specs.declared.ending.Product.TheVariants.{Searched}
 use Rattle.roadopt_program.specs.declared.status.Status.{Status}
 use Rattle.roadopt_program.specs.declared.status.Status.TheVariants.{Done, Gap, WriteFault, NoMemory}
 use Rattle.roadopt_program.specs.CertChecking.{PrintsValid, Checks}
 use Rattle.roadopt_program.specs.Replaying.{Replays}
 use Rattle.roadopt_program.specs.Due.{road_due, Follows, IsDueOnRoad, IsDue, Due}
 use Rattle.roadopt_program.specs.Ends.{End, Output, after_fault, files_with, said}
-use Rattle.roadopt_program.specs.CommandWords.{Command, on_road, trial, command_of}
+use Rattle.roadopt_program.specs.CommandWords.{Check, Replay, Solve, Command, on_road, trial, command_of}
 use Rattle.roadopt_program.specs.Headline.{IsRoadOf, IsOpenNote, ShowsOpenLeaf, ShowsWhy, SumsTo, IsSolved, HoldsCert, PutsOut, HasSolved, KeepsSolve, HasTried, KeepsTrial}
 use Rattle.roadopt_program.specs.Inputs.{road_limit, cert_limit, IsGiven, IsGivenIfNamed, table_named}
 use Rattle.roadopt_program.specs.Printed.{valid_line, trial_line}
@@ -236,7 +237,7 @@ road_is files name road bytes table r b t =
     let table_is : table ≡ r.table = same_if_named files (table_named r.bytes) road_limit table r.table table_there r.table_given in
     ap₂ road_due bytes_are table_is ∙ r.made_is
 
-solves_road : (files : Files) (road_name cert_name : List ℕ) (road : Road) (found : Option Found) (end : End) → IsRoadOf (Some files) road_name (Ok road)
+solves_road : (files : Files) (road_name cert_name : List ℕ) (road : Road) (found : Option Product) (end : End) → IsRoadOf (Some files) road_name (Ok road)
     → IsDueOnRoad (Some files) (record { verb = Solve; road = road_name; other = cert_name }) found end → Solves road cert_name found end
 solves_road files road_name cert_name road found end r due =
     let made = road_is files road_name road due.given.road due.given.table r due.are_given.road due.are_given.table in
@@ -259,7 +260,7 @@ puts_out road road_name cert_name found end told files before now h whole file =
     }
 
 has_solved : (road : Road) (road_name cert_name : List ℕ) (found : Found) (end : End) (status : Status) (told files : Option Files) (before now : Output) (cert : Option Cert) (notes : List NodeNote)
-    → SolvesBy road cert_name found end → end.status ≡ status → GrewBy before.written end.output now.written → files ≡ files_with told end.file → HandsOut (Some found) cert notes
+    → SolvesBy road cert_name found end → end.status ≡ status → GrewBy before.written end.output now.written → files ≡ files_with told end.file → HandsOut (Some (Searched found)) cert notes
     → HasSolved road road_name cert_name cert notes status told files before now
 has_solved road road_name cert_name found end status told files before now cert notes h is whole file out =
     let solved = is_solved road found status h.is_found (subst (λ (s : Status). HasStatus s found.cert.cost found.cert.bound) is h.status) in
@@ -270,13 +271,13 @@ has_solved road road_name cert_name found end status told files before now cert 
       puts_out = puts_out road road_name cert_name found end told files before now h whole file;
     }
 
-solved_by : (road : Road) (road_name cert_name : List ℕ) (found : Option Found) (end : End) (status : Status) (told files : Option Files) (before now : Output) (cert : Option Cert) (notes : List NodeNote)
+solved_by : (road : Road) (road_name cert_name : List ℕ) (found : Option Product) (end : End) (status : Status) (told files : Option Files) (before now : Output) (cert : Option Cert) (notes : List NodeNote)
     → Solves road cert_name found end → end.status ≡ status → GrewBy before.written end.output now.written → files ≡ files_with told end.file → HandsOut found cert notes
     → HasSolved road road_name cert_name cert notes status told files before now
-solved_by road road_name cert_name None end status told files before now cert notes h is whole file out = absurd h
-solved_by road road_name cert_name (Some found) end status told files before now cert notes h is whole file out = has_solved road road_name cert_name found end status told files before now cert notes h is whole file out
+solved_by road road_name cert_name (Some (Searched found)) end status told files before now cert notes h is whole file out = has_solved road road_name cert_name found end status told files before now cert notes h is whole file out
+solved_by road road_name cert_name _ end status told files before now cert notes h is whole file out = absurd h
 
-due_of_words : (told : Option Files) (words : List (List ℕ)) (command : Command) (found : Option Found) (end : End) → command_of words ≡ Some command → Due told words found end → IsDue told command found end
+due_of_words : (told : Option Files) (words : List (List ℕ)) (command : Command) (found : Option Product) (end : End) → command_of words ≡ Some command → Due told words found end → IsDue told command found end
 due_of_words told words command found end form due = subst (λ (c : Command). IsDue told c found end) (same_some (command_of words) due.command command due.form form) due.is_due
 
 pub keeps_solve : (told : Option Files) (words : List (List ℕ)) (status : Status) (cert : Option Cert) (notes : List NodeNote) (files : Option Files) (before now : Output)
@@ -291,7 +292,7 @@ keeps_solve told words status cert notes files before now answers all road_name 
 -- ---- `trial`
 
 has_tried : (number : ℕ) (found : Found) (end : End) (status : Status) (told files : Option Files) (before now : Output) (cert : Option Cert) (notes : List NodeNote)
-    → TriesBy number found end → end.status ≡ status → GrewBy before.written end.output now.written → files ≡ files_with told end.file → HandsOut (Some found) cert notes
+    → TriesBy number found end → end.status ≡ status → GrewBy before.written end.output now.written → files ≡ files_with told end.file → HandsOut (Some (Searched found)) cert notes
     → HasTried number cert notes status told files before now
 has_tried number found end status told files before now cert notes h is whole file out =
     let road = trial_road number in
@@ -307,11 +308,11 @@ has_tried number found end status told files before now cert notes h is whole fi
       no_file = file ∙ ap (λ o. files_with told o) h.no_file;
     }
 
-tried_by : (number : ℕ) (found : Option Found) (end : End) (status : Status) (told files : Option Files) (before now : Output) (cert : Option Cert) (notes : List NodeNote)
+tried_by : (number : ℕ) (found : Option Product) (end : End) (status : Status) (told files : Option Files) (before now : Output) (cert : Option Cert) (notes : List NodeNote)
     → Tries number found end → end.status ≡ status → GrewBy before.written end.output now.written → files ≡ files_with told end.file → HandsOut found cert notes
     → HasTried number cert notes status told files before now
-tried_by number None end status told files before now cert notes h is whole file out = absurd h
-tried_by number (Some found) end status told files before now cert notes h is whole file out = has_tried number found end status told files before now cert notes h is whole file out
+tried_by number (Some (Searched found)) end status told files before now cert notes h is whole file out = has_tried number found end status told files before now cert notes h is whole file out
+tried_by number _ end status told files before now cert notes h is whole file out = absurd h
 
 pub keeps_trial : (told : Option Files) (words : List (List ℕ)) (status : Status) (cert : Option Cert) (notes : List NodeNote) (files : Option Files) (before now : Output)
     → (IsTrue (is_answer status) → IsAnswered told words status cert notes files before now) → KeepsTrial told words status cert notes files before now
@@ -321,15 +322,15 @@ keeps_trial told words status cert notes files before now answers number form an
 
 -- ---- a search that is asked for has an answer
 
-solves_answer : (road : Road) (name : List ℕ) (found : Option Found) (end : End) → Solves road name found end → IsTrue (is_answer end.status)
-solves_answer road name None end h = absurd h
-solves_answer road name (Some found) end h = found_status end.status found.cert.cost found.cert.bound h.status
+solves_answer : (road : Road) (name : List ℕ) (found : Option Product) (end : End) → Solves road name found end → IsTrue (is_answer end.status)
+solves_answer road name (Some (Searched found)) end h = found_status end.status found.cert.cost found.cert.bound h.status
+solves_answer road name _ end h = absurd h
 
-tries_answer : (number : ℕ) (found : Option Found) (end : End) → Tries number found end → IsTrue (is_answer end.status)
-tries_answer number None end h = absurd h
-tries_answer number (Some found) end h = found_status end.status found.cert.cost found.cert.bound h.status
+tries_answer : (number : ℕ) (found : Option Product) (end : End) → Tries number found end → IsTrue (is_answer end.status)
+tries_answer number (Some (Searched found)) end h = found_status end.status found.cert.cost found.cert.bound h.status
+tries_answer number _ end h = absurd h
 
-solve_answer : (files : Files) (words : List (List ℕ)) (command : Command) (found : Option Found) (end : End) (road_name cert_name : List ℕ) (road : Road) → command_of words ≡ Some command
+solve_answer : (files : Files) (words : List (List ℕ)) (command : Command) (found : Option Product) (end : End) (road_name cert_name : List ℕ) (road : Road) → command_of words ≡ Some command
     → IsDue (Some files) command found end → command_of words ≡ Some (on_road (record { verb = Solve; road = road_name; other = cert_name })) → IsRoadOf (Some files) road_name (Ok road) → IsTrue (is_answer end.status)
 solve_answer files words command found end road_name cert_name road form due asks r =
     let is = same_some (command_of words) command (on_road (record { verb = Solve; road = road_name; other = cert_name })) form asks in

@@ -36,12 +36,11 @@ use Rattle.branch_bound.specs.declared.notes.NodeNote.TheVariants.{Nodes, Pivots
 use Rattle.branch_bound.specs.Endings.{HasPlanAt, IsBelowCost, IsNoStop, HasNodesForAll}
 use Rattle.branch_bound.specs.Noted.{Noted, low_with, dead_with, fork_with, tree_of, notes_of, IsShownLow}
 use Rattle.branch_bound.specs.Searched.{IsSearched}
-use Rattle.roadopt_program.specs.declared.forms.Verb.TheVariants.{Check, Replay, Solve}
 use Rattle.roadopt_program.specs.declared.status.Status.{Status}
 use Rattle.roadopt_program.specs.declared.status.Status.TheVariants.{Done}
 use Rattle.roadopt_program.specs.Due.{road_due, IsDueOnRoad}
 use Rattle.roadopt_program.specs.Ends.{End, Output, said}
-use Rattle.roadopt_program.specs.CommandWords.{on_road, trial, command_of}
+use Rattle.roadopt_program.specs.CommandWords.{Check, Replay, Solve, on_road, trial, command_of}
 use Rattle.roadopt_program.specs.Inputs.{road_limit, IsGiven, IsGivenIfNamed, table_named}
 use Rattle.roadopt_program.specs.Printed.{valid_line, trial_line}
 use Rattle.roadopt_program.specs.Solving.{HasStatus}

@@ -24,8 +24,15 @@ pub(crate) struct Made {
     pub(crate) ending: Ending,
     /// The bytes of the file that is written, if any.
     pub(crate) text: Option<Vec<u8>>,
-    /// What the search found, if there was one.
-    pub(crate) found: Option<Found>,
+    /// What is handed out, if anything.
+    pub(crate) found: Option<Product>,
+}
+
+/// What a command found that is handed out at the end of a run.
+#[derive(Drop)]
+pub(crate) enum Product {
+    /// A search found this.
+    Searched { found: Found },
 }
 
 /// An end without a search, which writes no file.

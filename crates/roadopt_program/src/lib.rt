@@ -1,5 +1,5 @@
 //! The program's commands over any store and sink: `run` takes the words of the command line and answers how it ended.
-//! The definitions stand in specs/: Forms (words), Due (what is due, in the order of the call), Runs (what stands behind each end).
+//! The definitions stand in specs/: CommandWords (words), Due (what is due, in the order of the call), Runs (what stands behind each end).
 #![tactic(auto)]
 
 mod cert_checking;

@@ -1,24 +1,23 @@
 // The top call.
 ghost use Rattle.std.specs.Prelude.{◌≡◌, ◌≤◌, ◌⊎◌, ◌↔◌, false, ℕ, [], Some, None, Option, IsTrue, map};
-ghost use Rattle.std.specs.Option.{option_map};
 ghost use Rattle.std.specs.String.{string_bytes};
 ghost use Rattle.outside.specs.Faults.{HasRisen};
 ghost use Rattle.roadopt_program.specs.Ends.{Says};
 ghost use Rattle.roadopt_program.specs.CommandWords.{command_of, on_road, trial};
 ghost use Rattle.roadopt_program.specs.Headline.{KeepsSolve, KeepsTrial};
 ghost use Rattle.roadopt_program.specs.Printed.{usage_line};
-ghost use Rattle.roadopt_program.specs.Runs.{IsAnswered, IsRefused, IsMissing, IsLost, EndsAsDue, AnswersSolve, AnswersTrial, HasOneEnd, notes_found};
+ghost use Rattle.roadopt_program.specs.Runs.{IsAnswered, IsRefused, IsMissing, IsLost, EndsAsDue, AnswersSolve, AnswersTrial, HasOneEnd, cert_found, notes_found};
 ghost use Rattle.roadopt_program.specs.Statuses.{is_answer, may_hand_out, is_refusal, is_silent};
-ghost use Rattle.roadopt_program.specs.inside.Called.{called, IsCallable};
+ghost use Rattle.roadopt_program.specs.inside.Called.{called, road_called, IsCallable};
 ghost use Rattle.roadopt_program.specs.inside.Outcomes.{Outcome, TrialOutcome, TriesOnly};
 
 use crate::Status;
 use crate::commands::end_of_command;
-use crate::ending::{finish, print, say};
+use crate::ending::{Product, finish, print, say};
 use crate::forms::{Command, RoadCommand, command_of};
 use crate::inputs::Lost;
 use crate::trying::try_number;
-use branch_bound::{Found, NodeNote};
+use branch_bound::NodeNote;
 use cert_text::Cert;
 use outside::{Sink, Store};
 use road_types::Listed;
@@ -26,7 +25,7 @@ use std::alloc::{AllocError, Global};
 
 /// What is printed where the words aren't one of the forms.
 const USAGE: &str =
-    "usage: judge ROAD PLAN, check ROAD CERT, replay ROAD CERT, solve ROAD CERT, trial NUMBER\n";
+    "usage: judge ROAD PLAN, check ROAD CERT, replay ROAD CERT, solve ROAD CERT, trial NUMBER, mass ROAD CERT\n";
 
 /// How a run ended, and what its search found.
 #[derive(Debug, Drop)]
@@ -41,9 +40,9 @@ pub struct Answer {
 
 /// Runs the program over a store and a sink; `words` are those of the command line, without the program's name.
 ///
-/// `Usage` where they aren't `judge ROAD PLAN`, `check ROAD CERT`, `replay ROAD CERT`, `solve ROAD CERT` or `trial NUMBER`. Else the road
-/// file is read, then the section table that it names, then the plan or the certificate, and the line for it or its report is printed; or
-/// the road is searched, the certificate that was found is written to CERT, and its report is printed. The first thing that is wrong on
+/// `Usage` where they aren't `judge ROAD PLAN`, `check ROAD CERT`, `replay ROAD CERT`, `solve ROAD CERT`, `trial NUMBER` or `mass ROAD CERT`.
+/// Else the road file is read, then the section table that it names, then the plan or the certificate, and the line for it, its report or its
+/// mass diagram is printed; or the road is searched, the certificate that was found is written to CERT, and its report is printed. The first thing that is wrong on
 /// this way is the end. `NoMemory` may come at any step before anything is written or printed.
 #[tactic(auto, using(crate::proofs::RunLaws::usage_as_due, crate::proofs::DueLaws::one_end, crate::proofs::HeadlineLaws::usage_solve, crate::proofs::HeadlineLaws::usage_trial, crate::proofs::HeadlineLaws::usage_solve_answers, crate::proofs::HeadlineLaws::usage_trial_answers))]
 pub fn run<S: Store, O: Sink>(alloc: Global, words: &[String], store: &mut S, out: &mut O) -> Answer
@@ -107,13 +106,13 @@ pub fn run<S: Store, O: Sink>(alloc: Global, words: &[String], store: &mut S, ou
 }
 
 /// The answer at this status: what was found is handed out.
-fn handed_out(alloc: Global, status: Status, found: Option<Found>) -> Answer
+fn handed_out(alloc: Global, status: Status, found: Option<Product>) -> Answer
     ensures status { result.status ≡ status }
-    ensures cert { result.cert ≡ option_map (λ f. f.cert) found }
+    ensures cert { result.cert ≡ cert_found found }
     ensures notes { result.notes ≡ notes_found found }
 {
     match found {
-        Some(found) => Answer {
+        Some(Product::Searched { found }) => Answer {
             status,
             cert: Some(found.cert),
             notes: found.notes,
@@ -170,7 +169,7 @@ fn carry_out_on_road<S: Store, O: Sink>(
     out: &mut O,
 ) -> Answer
     ensures outcome { Outcome (S.files store.old)
-        (on_road (record { verb = command.entry.verb; road = command.entry.road.now; other = command.entry.other.now })) (S.files store.new)
+        (on_road (road_called command.entry)) (S.files store.new)
         (S.read_faults store.old) (S.read_faults store.new) (S.write_faults store.old) (S.write_faults store.new)
         (record { written = O.written out.old; faults = O.faults out.old })
         (record { written = O.written out.new; faults = O.faults out.new }) result.status result.cert result.notes }
@@ -178,7 +177,7 @@ fn carry_out_on_road<S: Store, O: Sink>(
 {
     match end_of_command(alloc, command, store) {
         Ok(made) => {
-            let status = finish(&made, command.other, store, out);
+            let status = finish(&made, command.name_written(), store, out);
             handed_out(alloc, status, made.found)
         }
         Err(lost) => handed_out(alloc, lost_status(lost), None),
