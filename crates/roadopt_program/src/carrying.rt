@@ -10,11 +10,10 @@ ghost use Rattle.roadopt_program.specs.Ends.{End};
 ghost use Rattle.roadopt_program.specs.Printed.{carried_line};
 ghost use Rattle.roadopt_program.specs.inside.Outcomes.{made_end};
 
-use crate::Status;
 use crate::cert_checking::cert_refused;
 use crate::ending::{Made, Product, said, unsearched};
-use crate::lines;
 use crate::solving::text_of;
+use crate::{Status, lines};
 use carried_bounds::carry;
 use cert_checker::{CertRule, CheckErr, carriable};
 use cert_text::Cert;
@@ -35,12 +34,7 @@ pub(crate) fn carry_bytes(alloc: Global, road: &Road, bytes: &[u8]) -> Result<Ma
 
 /// The end for a certificate whose bound can be carried.
 #[tactic(auto, using(crate::proofs::CarryLemmas::carried_made))]
-fn carry_cert(
-    alloc: Global,
-    road: &Road,
-    bytes: &[u8],
-    given: &Cert,
-) -> Result<Made, AllocError>
+fn carry_cert(alloc: Global, road: &Road, bytes: &[u8], given: &Cert) -> Result<Made, AllocError>
     requires accepted { road_fault road.now ≡ None }
     requires carriable { IsCarriableCert road.now bytes.now given.now }
     ensures { IfOk result (λ made. (name : List ℕ) → CarriesBytes road.now name bytes.now made.found (made_end name made)) }

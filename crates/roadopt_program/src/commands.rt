@@ -60,12 +60,7 @@ fn end_on_road<S: Store>(
         return Ok(solve_road(alloc, road)?);
     };
     match read_file(alloc, command.other, limit, store)? {
-        Some(bytes) => Ok(made_over_bytes(
-            alloc,
-            &command.verb,
-            road,
-            bytes.as_slice(),
-        )?),
+        Some(bytes) => Ok(made_over_bytes(alloc, &command.verb, road, bytes.as_slice())?),
         None => Ok(unsearched(missing(alloc))),
     }
 }
