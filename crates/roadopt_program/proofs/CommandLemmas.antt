@@ -11,7 +11,7 @@ use Rattle.roadopt_program.specs.declared.ending.Product.{Product}
 use Rattle.roadopt_program.specs.declared.inputs.Lost.{Lost}
 use Rattle.roadopt_program.specs.Due.{road_due, FollowsRoad, Follows}
 use Rattle.roadopt_program.specs.Ends.{End, missing_end}
-use Rattle.roadopt_program.specs.CommandWords.{Verb, Judge, Check, Replay, Solve, Mass, RoadCommand, name_written}
+use Rattle.roadopt_program.specs.CommandWords.{Verb, Judge, Check, Replay, Solve, Mass, Carry, RoadCommand, name_written}
 use Rattle.roadopt_program.specs.Inputs.{IsGiven, IsGivenWithin, other_limit}
 use Rattle.roadopt_program.specs.Solving.{Solves}
 use Rattle.roadopt_program.specs.inside.Outcomes.{end_of, made_end, IsRoadRead, IsMadeOnRoad, IsMade}
@@ -37,6 +37,7 @@ nowhere Judge road name most found end reads none h = (none, h)
 nowhere Check road name most found end reads none h = (none, h)
 nowhere Replay road name most found end reads none h = (none, h)
 nowhere Mass road name most found end reads none h = (none, h)
+nowhere (Carry new) road name most found end reads none h = (none, h)
 nowhere Solve road name most found end reads none h = cc
 
 by_search : (verb : Verb) (road : Road) (name : List ℕ) (found : Option Product) (end : End) → None ≡ other_limit verb → Solves road name found end → FollowsRoad verb road name None found end
@@ -44,6 +45,7 @@ by_search Judge road name found end reads h = cc
 by_search Check road name found end reads h = cc
 by_search Replay road name found end reads h = cc
 by_search Mass road name found end reads h = cc
+by_search (Carry new) road name found end reads h = cc
 by_search Solve road name found end reads h = h
 
 within : (told : Option Files) (name : List ℕ) (most : ℕ) (limit : Option ℕ) (given : Option (List ℕ)) → Some most ≡ limit → IsGiven told name most given → IsGivenWithin told name limit given

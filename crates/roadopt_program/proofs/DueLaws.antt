@@ -15,18 +15,19 @@ use Rattle.plan_text.specs.Misfits.{refused_line}
 use Rattle.plan_text.proofs.AnswerLaws.{plan_of_text-exact}
 use Rattle.numbers.proofs.FractionsLemmas.{same_value_fraction}
 use Rattle.roadopt_program.specs.declared.ending.Product.{Product}
-use Rattle.roadopt_program.specs.declared.ending.Product.TheVariants.{Searched}
+use Rattle.roadopt_program.specs.declared.ending.Product.TheVariants.{Searched, Carried}
 use Rattle.roadopt_program.specs.declared.status.Status.{Status}
 use Rattle.roadopt_program.specs.declared.status.Status.TheVariants.{Done, Gap, RoadRefused, PlanBroken, PlanRefused, CertRefused, Missing}
 use Rattle.roadopt_program.specs.Due.{◌>>=◌, keeps_rules, is_table_there, road_due, FollowsRoad, Follows, IsDueOnRoad, IsDue, Due}
 use Rattle.roadopt_program.specs.Ends.{End, said, missing_end}
-use Rattle.roadopt_program.specs.CommandWords.{Verb, Judge, Check, Replay, Solve, Mass, RoadCommand, Command, on_road, trial, command_of, name_written}
+use Rattle.roadopt_program.specs.CommandWords.{Verb, Judge, Check, Replay, Solve, Mass, Carry, RoadCommand, Command, on_road, trial, command_of, name_written}
 use Rattle.roadopt_program.specs.Inputs.{GivenFiles, IsGivenWithin, IsGivenIfNamed, table_named, road_limit, other_limit}
 use Rattle.roadopt_program.specs.Judging.{PrintsFraction, PrintsFirstBroken, PrintsRefusedLine, OfPlan, JudgesText, OfPlanBytes, Judges}
 use Rattle.roadopt_program.specs.Printed.{plan_refused_line, broken_line, admissible_line, cert_refused_line, valid_line, trial_line, road_refused_line}
 use Rattle.roadopt_program.specs.CertChecking.{PrintsValid, PrintsRefusal, OfCertBytes, Checks}
 use Rattle.roadopt_program.specs.Replaying.{PrintsLines, OfReported, Reports}
 use Rattle.roadopt_program.specs.Solving.{HasStatus, SolvesBy}
+use Rattle.roadopt_program.specs.Carrying.{CarriesBytes, Carries}
 use Rattle.roadopt_program.specs.Trying.{TriesBy}
 use Rattle.report.specs.Lines.{Line, AreLines}
 use Rattle.report.proofs.OneReport.{one_text}
@@ -41,6 +42,10 @@ use Rattle.cert_checker.specs.Refusals.{refused}
 use Rattle.cert_text.specs.Validity.{stated_cost}
 use Rattle.cert_checker.specs.declared.refusal.Refusal.{Refusal}
 use Rattle.cert_checker.proofs.OneRefusal.{one_refusal}
+use Rattle.cert_checker.proofs.CarryLaws.{one_carry_refusal}
+use Rattle.cert_checker.specs.Carriable.{IsCarriableCert, IsCarriableText, IsFirstCarryRefusal}
+use Rattle.cert_checker.specs.declared.refusal.CertRule.{CertRule}
+use Rattle.cert_text.specs.declared.cert.Cert.{Cert}
 use Rattle.cert_text.specs.CertText.{Certificate, IsCertText}
 use Rattle.cert_text.proofs.CertLaws.{cert_of_text-exact}
 use Rattle.road_types.proofs.AcceptedRoad.{IsAccepted-from_fault}
@@ -239,12 +244,30 @@ same_reports lines road (Some bytes) a b p q =
     let both = same_reported lines road (IsAccepted-from_fault road p.0) bytes a.status b.status a.output b.output p.1.0 q.1.0 in
     same_end a b both.0 both.1 (p.1.1 ∙ sym q.1.1)
 
+-- ---- the end of what is carried is one
+
+same_carry_line : (road : Road) (acc : IsAccepted road) (bytes : List ℕ) (a b : CertRule) (n m : ℕ) → IsFirstCarryRefusal road bytes (refused a n) → IsFirstCarryRefusal road bytes (refused b m)
+    → cert_refused_line a n ≡ cert_refused_line b m
+unfolding line_of cert_refused_line
+same_carry_line road acc bytes a b n m p q = ap line_of (one_carry_refusal road acc bytes (refused a n) (refused b m) p q)
+
+same_carried : (road : Road) (name bytes : List ℕ) (found : Option Product) (a b : End) → CarriesBytes road name bytes found a → CarriesBytes road name bytes found b → a ≡ b
+same_carried road name bytes None a b p q =
+    p.end_is ∙ ap (λ l. said CertRefused l) (same_carry_line road (IsAccepted-from_fault road p.accepted) bytes p.rule q.rule p.number q.number p.first q.first) ∙ sym q.end_is
+same_carried road name bytes (Some (Carried cert)) a b p q = p.end_is ∙ sym q.end_is
+same_carried road name bytes _ a b p q = absurd p
+
+same_carries : (road : Road) (name : List ℕ) (given : Option (List ℕ)) (found : Option Product) (a b : End) → Carries road name given found a → Carries road name given found b → a ≡ b
+same_carries road name None found a b p q = p.1 ∙ sym q.1
+same_carries road name (Some bytes) found a b p q = same_carried road name bytes found a b p q
+
 same_on_road : (verb : Verb) (road : Road) (name : List ℕ) (other : Option (List ℕ)) (found : Option Product) (a b : End)
     → FollowsRoad verb road name other found a → FollowsRoad verb road name other found b → a ≡ b
 same_on_road Judge road name other found a b p q = same_judged road other a b p.1 q.1
 same_on_road Check road name other found a b p q = same_checked road other a b p.1 q.1
 same_on_road Replay road name other found a b p q = same_reports cert_lines road other a b p.1 q.1
 same_on_road Mass road name other found a b p q = same_reports cert_mass_lines road other a b p.1 q.1
+same_on_road (Carry new) road name other found a b p q = same_carries road name other found a b p q
 same_on_road Solve road name other (Some (Searched found)) a b p q = same_solved road name found a b p q
 same_on_road Solve road name other _ a b p q = absurd p
 
@@ -287,12 +310,27 @@ one_end told words files found a b is p q =
 
 -- ---- a search stands behind an end or it doesn't
 
+-- a carriable text is that of a certificate whose bound can be carried
+pub carriable_text : (road : Road) (bytes : List ℕ) (cert : Cert) → IsCarriableCert road bytes cert → IsCarriableText road bytes (certificate_of cert)
+carriable_text road bytes cert c = record { short = c.short; text = record { has_text = c.text.spelled.has_text; is_text = c.text.is_text }; carriable = c.carriable }
+
+some_carried : (road : Road) (name bytes : List ℕ) (found other : Option Product) (a b : End) → CarriesBytes road name bytes found a → CarriesBytes road name bytes other b → found ≡ None → other ≡ None
+some_carried road name bytes None None a b p q none = refl
+some_carried road name bytes None (Some (Carried cert)) a b p q none = absurd (p.none (certificate_of q.given) (carriable_text road bytes q.given q.carriable))
+some_carried road name bytes None _ a b p q none = absurd q
+some_carried road name bytes _ other a b p q none = cc
+
+some_carries : (road : Road) (name : List ℕ) (given : Option (List ℕ)) (found other : Option Product) (a b : End) → Carries road name given found a → Carries road name given other b → found ≡ None → other ≡ None
+some_carries road name None found other a b p q none = q.0
+some_carries road name (Some bytes) found other a b p q none = some_carried road name bytes found other a b p q none
+
 some_search : (found other : Option Product) (a b : End) (verb : Verb) (road : Road) (name : List ℕ) (bytes : Option (List ℕ))
     → FollowsRoad verb road name bytes found a → FollowsRoad verb road name bytes other b → found ≡ None → other ≡ None
 some_search found other a b Judge road name bytes p q none = q.0
 some_search found other a b Check road name bytes p q none = q.0
 some_search found other a b Replay road name bytes p q none = q.0
 some_search found other a b Mass road name bytes p q none = q.0
+some_search found other a b (Carry new) road name bytes p q none = some_carries road name bytes found other a b p q none
 some_search None other a b Solve road name bytes p q none = absurd p
 some_search (Some f) other a b Solve road name bytes p q none = cc
 
@@ -369,11 +407,25 @@ found_status _ cost bound h = absurd h
 no_search : (found : Option Product) (end : End) → found ≡ None → IsEndOf None end → IsEndOf found end
 no_search found end none h = subst (λ (f : Option Product). IsEndOf f end) (sym none) h
 
+refusal_is : (line : List ℕ) (end : End) → end ≡ said CertRefused line → IsEndOf None end
+unfolding may_be_due
+refusal_is line end h = (ap (λ e. e.file) h, (ap (λ e. may_be_due e.status) h, λ e. absurd (omega (arith, ap (λ x. exit_status x.status) h, ap exit_status e))))
+
+carried_kind : (road : Road) (name bytes : List ℕ) (found : Option Product) (end : End) → CarriesBytes road name bytes found end → IsEndOf found end
+carried_kind road name bytes None end h = refusal_is (cert_refused_line h.rule h.number) end h.end_is
+carried_kind road name bytes (Some (Carried cert)) end h = ap (λ e. is_answer e.status) h.end_is
+carried_kind road name bytes _ end h = absurd h
+
+carries_kind : (road : Road) (name : List ℕ) (given : Option (List ℕ)) (found : Option Product) (end : End) → Carries road name given found end → IsEndOf found end
+carries_kind road name None found end h = no_search found end h.0 (missing_is end h.1)
+carries_kind road name (Some bytes) found end h = carried_kind road name bytes found end h
+
 road_kind : (verb : Verb) (road : Road) (name : List ℕ) (other : Option (List ℕ)) (found : Option Product) (end : End) → FollowsRoad verb road name other found end → IsEndOf found end
 road_kind Judge road name other found end h = no_search found end h.0 (judged_kind road other end h.1)
 road_kind Check road name other found end h = no_search found end h.0 (checked_kind road other end h.1)
 road_kind Replay road name other found end h = no_search found end h.0 (reported_kind cert_lines road other end h.1)
 road_kind Mass road name other found end h = no_search found end h.0 (reported_kind cert_mass_lines road other end h.1)
+road_kind (Carry new) road name other found end h = carries_kind road name other found end h
 road_kind Solve road name other (Some (Searched found)) end h = found_status end.status found.cert.cost found.cert.bound h.status
 road_kind Solve road name other _ end h = absurd h
 

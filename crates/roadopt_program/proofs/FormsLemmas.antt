@@ -3,7 +3,7 @@ use Rattle.std.specs.Prelude.{ℕ, ◌≢◌, ◌-◌, Option, Some, None, List,
 use Rattle.std.proofs.Common.{◌≡◌, get_or, refl, ap, arith}
 use Rattle.std.proofs.lemmas.List.{take_all}
 use Rattle.text_parts.specs.Decimal.{whole_of}
-use Rattle.roadopt_program.specs.CommandWords.{Verb, Form, two_files, a_number, forms, form_in, over_files, trial_of, command_by, command_of}
+use Rattle.roadopt_program.specs.CommandWords.{Verb, Form, Carry, two_files, a_number, to_new, forms, form_in, over_files, trial_of, command_by, command_of}
 
 pub two_of : {A : Type 0} (f : A → List ℕ) (verb : Verb) (names : List A) (x y : A) (road other : List ℕ) → length names ≡ 2
     → x ≡ get_or names 0 x → y ≡ get_or names 1 y → road ≡ f x → other ≡ f y
@@ -20,6 +20,24 @@ not_two f verb [] n = refl
 not_two f verb (a ∷ []) n = refl
 not_two f verb (a ∷ b ∷ []) n = absurd (n refl)
 not_two f verb (a ∷ b ∷ c ∷ rest) n = refl
+
+pub three_of : {A : Type 0} (f : A → List ℕ) (names : List A) (x y z : A) (road cert new : List ℕ) → length names ≡ 3
+    → x ≡ get_or names 0 x → y ≡ get_or names 1 y → z ≡ get_or names 2 z → road ≡ f x → cert ≡ f y → new ≡ f z
+    → over_files (Carry new) road cert ≡ command_by (Some to_new) (map f names)
+unfolding command_by
+three_of f [] x y z road cert new l p q r a b c = absurd (omega arith)
+three_of f (u ∷ []) x y z road cert new l p q r a b c = absurd (omega arith)
+three_of f (u ∷ v ∷ []) x y z road cert new l p q r a b c = absurd (omega arith)
+three_of f (u ∷ v ∷ w ∷ []) x y z road cert new l p q r a b c = rw (a, b, c, p, q, r) refl
+three_of f (u ∷ v ∷ w ∷ t ∷ rest) x y z road cert new l p q r a b c = absurd (omega arith)
+
+pub not_three : {A : Type 0} (f : A → List ℕ) (names : List A) → length names ≢ 3 → None ≡ command_by (Some to_new) (map f names)
+unfolding command_by
+not_three f [] n = refl
+not_three f (a ∷ []) n = refl
+not_three f (a ∷ b ∷ []) n = refl
+not_three f (a ∷ b ∷ c ∷ []) n = absurd (n refl)
+not_three f (a ∷ b ∷ c ∷ d ∷ rest) n = refl
 
 pub one_of : {A : Type 0} (f : A → List ℕ) (names : List A) (x : A) (number : List ℕ) → length names ≡ 1 → x ≡ get_or names 0 x → number ≡ f x
     → trial_of (whole_of number) ≡ command_by (Some a_number) (map f names)

@@ -2,7 +2,7 @@
 --     road_due road table      the road that the given bytes stand for, or the end that is due where they stand for none
 --     FollowsRoad verb road name other found end      the end of the command on an accepted road
 --     IsDue told command found end, Due told words found end      the end is due where these files are told
--- A search has many answers that are right, so what it found is said beside the end; of a run without a search it is none.
+-- A search has many answers that are right, and so has what is carried: what was found is said beside the end; of a run without it, it is none.
 use Rattle.std.specs.Prelude.{◌≡◌, ℕ, Option, Some, None, Result, Ok, Err, List}
 use Rattle.outside.specs.Files.{Files}
 use Rattle.road_types.specs.declared.fault.Fault.{Fault}
@@ -11,12 +11,13 @@ use Rattle.road_file.specs.RoadOf.{table_name_of, road_of}
 use Rattle.roadopt_program.specs.declared.ending.Product.{Product}
 use Rattle.roadopt_program.specs.declared.status.Status.TheVariants.{RoadRefused}
 use Rattle.roadopt_program.specs.Ends.{End, said, missing_end}
-use Rattle.roadopt_program.specs.CommandWords.{Verb, Judge, Check, Replay, Solve, Mass, RoadCommand, Command, on_road, trial, command_of, name_written}
+use Rattle.roadopt_program.specs.CommandWords.{Verb, Judge, Check, Replay, Solve, Mass, Carry, RoadCommand, Command, on_road, trial, command_of, name_written}
 use Rattle.roadopt_program.specs.Inputs.{GivenFiles, AreGiven}
 use Rattle.roadopt_program.specs.Judging.{Judges}
 use Rattle.roadopt_program.specs.CertChecking.{Checks}
 use Rattle.roadopt_program.specs.Replaying.{Replays, Masses}
 use Rattle.roadopt_program.specs.Solving.{Solves}
+use Rattle.roadopt_program.specs.Carrying.{Carries}
 use Rattle.roadopt_program.specs.Trying.{Tries}
 use Rattle.roadopt_program.specs.Printed.{road_refused_line}
 
@@ -58,6 +59,7 @@ FollowsRoad Check road name cert found end = (found ≡ None) × Checks road cer
 FollowsRoad Replay road name cert found end = (found ≡ None) × Replays road cert end
 FollowsRoad Solve road name given found end = Solves road name found end
 FollowsRoad Mass road name cert found end = (found ≡ None) × Masses road cert end
+FollowsRoad (Carry new) road name cert found end = Carries road name cert found end
 
 -- the end for what was made of the road's file
 abbrev pub Follows : Verb → Result Road End → List ℕ → Option (List ℕ) → Option Product → End → Type 0

@@ -2,7 +2,7 @@
 --     fault_name, rule_name      the names of faults and rules
 --     cert_rule_name      the names of the rules of certificates
 --     listed rows, usage_line      the forms of words
---     road_refused_line, plan_refused_line, broken_line, admissible_line, cert_refused_line, valid_line, trial_line      the lines
+--     road_refused_line, plan_refused_line, broken_line, admissible_line, cert_refused_line, valid_line, carried_line, trial_line      the lines
 use Rattle.std.specs.Prelude.{ℕ, List, [], ◌∷◌, ◌++◌, codes, Option, Some, None}
 use Rattle.std.specs.Fmt.{decimal}
 use Rattle.road_types.specs.declared.fault.Fault.{Fault}
@@ -103,6 +103,11 @@ cost_text (Some cost) = fraction_text cost
 unfoldable pub valid_line : Option Fraction → Option Fraction → List ℕ
 valid_line cost None = codes "valid no plan\n"
 valid_line cost (Some bound) = codes "valid cost " ++ (cost_text cost ++ (codes " bound " ++ (fraction_text bound ++ codes "\n")))
+
+-- `carried no plan` where no bound stands, else `carried cost n/d bound n/d`, with `none` where no plan stands
+unfoldable pub carried_line : Option Fraction → Option Fraction → List ℕ
+carried_line cost None = codes "carried no plan\n"
+carried_line cost (Some bound) = codes "carried cost " ++ (cost_text cost ++ (codes " bound " ++ (fraction_text bound ++ codes "\n")))
 
 -- the gap between cost and bound, by the status of the run
 abbrev pub gap_word : Status → List ℕ

@@ -3,7 +3,7 @@
 --     IsAnswered, IsRefused, IsMissing, IsLost      by the status of the run
 --     IsUnwritten, IsUnprinted      the two ways in which an answer is lost
 --     IsGivenUp, Reaches      a read failed or memory was wanting; an end is reached, or lost at a put, or the run was given up
---     EndsAsDue, AnswersSolve, AnswersTrial      the other direction: the run ends as it is due, or with an answer of a search, or something failed
+--     EndsAsDue, AnswersSolve, AnswersCarry, AnswersTrial      the other direction: the run ends as it is due, or with an answer of a search, or something failed
 --     HasOneEnd      told files leave one due end beside what a search found
 use Rattle.std.specs.Prelude.{◌≡◌, ℕ, ◌⊎◌, IsTrue, Option, Some, None, Ok, List, []}
 use Rattle.outside.specs.Faults.{HasRisen}
@@ -13,24 +13,28 @@ use Rattle.cert_text.specs.declared.cert.Cert.{Cert}
 use Rattle.branch_bound.specs.declared.notes.NodeNote.{NodeNote}
 use Rattle.road_types.specs.declared.road.Road.{Road}
 use Rattle.roadopt_program.specs.declared.ending.Product.{Product}
-use Rattle.roadopt_program.specs.declared.ending.Product.TheVariants.{Searched}
+use Rattle.roadopt_program.specs.declared.ending.Product.TheVariants.{Searched, Carried}
 use Rattle.roadopt_program.specs.declared.status.Status.{Status}
 use Rattle.roadopt_program.specs.declared.status.Status.TheVariants.{ReadFault, WriteFault, NoMemory}
 use Rattle.roadopt_program.specs.Due.{IsDueOnRoad, Due}
 use Rattle.roadopt_program.specs.Ends.{End, NamedBytes, Output, Says, after_fault, files_with, missing_end}
-use Rattle.roadopt_program.specs.CommandWords.{Solve, RoadCommand, on_road, trial, command_of}
+use Rattle.roadopt_program.specs.CommandWords.{Solve, Carry, RoadCommand, on_road, trial, command_of}
 use Rattle.roadopt_program.specs.Headline.{IsRoadOf}
+use Rattle.roadopt_program.specs.Inputs.{cert_limit, IsGiven}
+use Rattle.cert_checker.specs.Carriable.{IsCarriableCert}
 use Rattle.roadopt_program.specs.Statuses.{is_answer}
 
--- the certificate of what was found; without a search there is none
+-- the certificate that was found or carried; without one there is none
 abbrev pub cert_found : Option Product → Option Cert
 cert_found None = None
 cert_found (Some (Searched found)) = Some found.cert
+cert_found (Some (Carried cert)) = Some cert
 
 -- the notes of what was found; without a search there are none
 abbrev pub notes_found : Option Product → List NodeNote
 notes_found None = []
 notes_found (Some (Searched found)) = found.notes
+notes_found (Some (Carried cert)) = []
 
 -- the certificate and the notes of a search are handed out; without a search there are none
 pub record HandsOut (found : Option Product) (cert : Option Cert) (notes : List NodeNote) : Type 0 where
@@ -110,6 +114,17 @@ AnswersSolve told words reads_before reads_now writes_before writes_now before n
     (files : Files) (road_name cert_name : List ℕ) (road : Road) → told ≡ Some files
     → command_of words ≡ Some (on_road (record { verb = Solve; road = road_name; other = cert_name }))
     → IsRoadOf told road_name (Ok road)
+    → IsTrue (is_answer status)
+    ⊎ (((status ≡ WriteFault) × (HasRisen writes_before writes_now ⊎ HasRisen before.faults now.faults))
+    ⊎ IsGivenUp reads_before reads_now status)
+
+-- where told files give an accepted road and the text of a certificate whose bound can be carried, it is; or a write or a put failed; or the
+-- run was given up
+abbrev pub AnswersCarry : Option Files → List (List ℕ) → ℕ → ℕ → ℕ → ℕ → Output → Output → Status → Type 0
+AnswersCarry told words reads_before reads_now writes_before writes_now before now status =
+    (files : Files) (road_name cert_name new_name bytes : List ℕ) (road : Road) (given : Cert) → told ≡ Some files
+    → command_of words ≡ Some (on_road (record { verb = Carry new_name; road = road_name; other = cert_name }))
+    → IsRoadOf told road_name (Ok road) → IsGiven told cert_name cert_limit (Some bytes) → IsCarriableCert road bytes given
     → IsTrue (is_answer status)
     ⊎ (((status ≡ WriteFault) × (HasRisen writes_before writes_now ⊎ HasRisen before.faults now.faults))
     ⊎ IsGivenUp reads_before reads_now status)

@@ -7,6 +7,7 @@ ghost use Rattle.roadopt_program.specs.inside.Outcomes.{Prints, Finishes, end_of
 
 use crate::Status;
 use branch_bound::Found;
+use cert_text::Cert;
 use outside::{Sink, Store};
 use std::alloc::Global;
 
@@ -33,6 +34,8 @@ pub(crate) struct Made {
 pub(crate) enum Product {
     /// A search found this.
     Searched { found: Found },
+    /// This certificate was carried to the costs of the road.
+    Carried { cert: Cert },
 }
 
 /// An end without a search, which writes no file.

@@ -3,7 +3,7 @@ ghost use Rattle.std.specs.Prelude.{◌≡◌, ◌≤◌, map, IfSome, Some};
 ghost use Rattle.std.specs.Option.{option_map};
 ghost use Rattle.std.specs.String.{string_bytes};
 ghost use Rattle.text_parts.specs.Decimal.{whole_of};
-ghost use Rattle.roadopt_program.specs.CommandWords.{two_files, a_number, forms, form_in, is_empty, clashes, over_files, trial_of, command_by, command_of, trial, name_written};
+ghost use Rattle.roadopt_program.specs.CommandWords.{Carry, two_files, a_number, to_new, forms, form_in, is_empty, clashes, over_files, trial_of, command_by, command_of, trial, name_written};
 ghost use Rattle.roadopt_program.specs.inside.Called.{verb_called, form_called, road_called, called, number_called, IsCallable};
 
 use std::alloc::Global;
@@ -12,27 +12,31 @@ use trial_roads::GREATEST_NUMBER;
 
 /// What is to be done with a road.
 #[derive(Clone, Copy)]
-pub(crate) enum Verb {
+pub(crate) enum Verb<'a> {
     Judge,
     Check,
     Replay,
     Solve,
     Mass,
+    /// What is carried is written to the file of this name.
+    Carry { new: &'a str },
 }
 
 /// Which names follow a word.
 #[derive(Clone, Copy)]
-enum Form {
+enum Form<'a> {
     /// Those of a road's file and of a further one.
-    TwoFiles { verb: Verb },
+    TwoFiles { verb: Verb<'a> },
     /// The number of a trial road.
     Number,
+    /// Those of a road's file, of a certificate's and of one to write.
+    ToNew,
 }
 
 /// What is to be done with a road, the name of its file, and that of the further one.
 #[derive(Clone, Copy)]
 pub(crate) struct RoadCommand<'a> {
-    pub(crate) verb: Verb,
+    pub(crate) verb: Verb<'a>,
     pub(crate) road: &'a str,
     pub(crate) other: &'a str,
 }
@@ -51,7 +55,7 @@ fn is_empty(text: &str) -> bool
 }
 
 /// The form that begins with this word.
-fn form_of(word: &str) -> Option<Form>
+fn form_of<'a>(word: &str) -> Option<Form<'a>>
     ensures { option_map form_called result ≡ form_in forms word.now }
 {
     if word == "judge" {
@@ -64,6 +68,8 @@ fn form_of(word: &str) -> Option<Form>
         Some(Form::TwoFiles { verb: Verb::Solve })
     } else if word == "trial" {
         Some(Form::Number)
+    } else if word == "carry" {
+        Some(Form::ToNew)
     } else if word == "mass" {
         Some(Form::TwoFiles { verb: Verb::Mass })
     } else {
@@ -71,30 +77,41 @@ fn form_of(word: &str) -> Option<Form>
     }
 }
 
-impl Verb {
-    /// Whether the command doesn't take these names together: it would write over a file that it reads.
-    fn clashes(self, road: &str, other: &str) -> bool
-        ensures { result ≡ clashes (verb_called self) road.now other.now }
+impl Verb<'_> {
+    /// Whether the command doesn't take these names together: it would write over a file that it reads, or to a name that is empty.
+    fn clashes(&self, road: &str, other: &str) -> bool
+        ensures { result ≡ clashes (verb_called self.now) road.now other.now }
     {
         match self {
             Verb::Solve => road == other,
+            Verb::Carry { new } => clash(road, other, new),
             Verb::Judge | Verb::Check | Verb::Replay | Verb::Mass => false,
         }
     }
 }
 
+/// Whether the name of a new file is empty or one of the other two, or these are one.
+fn clash(road: &str, cert: &str, new: &str) -> bool
+    ensures { result ≡ clashes (Carry new.now) road.now cert.now }
+{
+    is_empty(new) || (road == cert || (road == new || cert == new))
+}
+
 impl<'a> RoadCommand<'a> {
     /// The name of the file that the command writes, where it writes one.
-    pub(crate) fn name_written(self) -> &'a str
-        ensures { result.now ≡ name_written (road_called self.entry) }
+    pub(crate) fn name_written(&self) -> &'a str
+        ensures { result.now ≡ name_written (road_called self.now) }
     {
-        self.other
+        match self.verb {
+            Verb::Carry { new } => new,
+            _ => self.other,
+        }
     }
 }
 
 /// The command over two files, neither of whose names is empty.
-fn over_files<'a>(verb: Verb, road: &'a str, other: &'a str) -> Option<Command<'a>>
-    ensures value { option_map called result ≡ over_files (verb_called verb) road.now other.now }
+fn over_files<'a>(verb: Verb<'a>, road: &'a str, other: &'a str) -> Option<Command<'a>>
+    ensures value { option_map called result ≡ over_files (verb_called verb.entry) road.now other.now }
     ensures callable { IfSome result IsCallable }
 {
     if is_empty(road) || (is_empty(other) || verb.clashes(road, other)) {
@@ -140,14 +157,27 @@ fn trial_command<'a>(number: &'a str) -> Option<Command<'a>>
 
 /// The command for the names of a road's file and of a further one.
 #[tactic(auto, using(crate::proofs::FormsLemmas::two_of, crate::proofs::FormsLemmas::not_two))]
-fn with_two(verb: Verb, names: &[String]) -> Option<Command<'_>>
-    ensures value { option_map called result ≡ command_by (Some (two_files (verb_called verb))) (map string_bytes names.now) }
+fn with_two<'a>(verb: Verb<'a>, names: &'a [String]) -> Option<Command<'a>>
+    ensures value { option_map called result ≡ command_by (Some (two_files (verb_called verb.entry))) (map string_bytes names.now) }
     ensures callable { IfSome result IsCallable }
 {
     if names.len() != 2 {
         return None;
     }
     over_files(verb, names[0].as_str(), names[1].as_str())
+}
+
+/// The command for the names of a road's file, of a certificate's and of one to write.
+#[tactic(auto, using(crate::proofs::FormsLemmas::three_of, crate::proofs::FormsLemmas::not_three))]
+fn with_new(names: &[String]) -> Option<Command<'_>>
+    ensures value { option_map called result ≡ command_by (Some to_new) (map string_bytes names.now) }
+    ensures callable { IfSome result IsCallable }
+{
+    if names.len() != 3 {
+        return None;
+    }
+    let new = names[2].as_str();
+    over_files(Verb::Carry { new }, names[0].as_str(), names[1].as_str())
 }
 
 /// The command for a number.
@@ -164,13 +194,14 @@ fn with_number(names: &[String]) -> Option<Command<'_>>
 
 /// The command for the names behind a word.
 #[tactic(auto, using(crate::proofs::FormsLemmas::by_no_form))]
-fn command_by(form: Option<Form>, names: &[String]) -> Option<Command<'_>>
-    ensures value { option_map called result ≡ command_by (option_map form_called form) (map string_bytes names.now) }
+fn command_by<'a>(form: Option<Form<'a>>, names: &'a [String]) -> Option<Command<'a>>
+    ensures value { option_map called result ≡ command_by (option_map form_called form.entry) (map string_bytes names.now) }
     ensures callable { IfSome result IsCallable }
 {
     match form {
         Some(Form::TwoFiles { verb }) => with_two(verb, names),
         Some(Form::Number) => with_number(names),
+        Some(Form::ToNew) => with_new(names),
         None => None,
     }
 }

@@ -2,6 +2,7 @@
 //! The definitions stand in specs/: CommandWords (words), Due (what is due, in the order of the call), Runs (what stands behind each end).
 #![tactic(auto)]
 
+mod carrying;
 mod cert_checking;
 mod commands;
 mod ending;

@@ -41,7 +41,7 @@ pub(crate) fn status_of(cost: &Option<Frac>, bound: &Option<Frac>) -> Status
 }
 
 /// The text of a certificate.
-fn text_of(alloc: Global, road: &Road, cert: &Cert) -> Result<Vec<u8>, AllocError>
+pub(crate) fn text_of(alloc: Global, road: &Road, cert: &Cert) -> Result<Vec<u8>, AllocError>
     requires accepted { road_fault road.now ≡ None }
     requires spelled { IsSpelledCert road.now cert.now }
     ensures { IfOk result (λ text. text.items ≡ cert_text road.now (certificate_of cert.now)) }

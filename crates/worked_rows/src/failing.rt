@@ -9,7 +9,7 @@ use roadopt_program::Status;
 use std::test::Fail;
 
 const USAGE: &[u8] =
-    b"usage: judge ROAD PLAN, check ROAD CERT, replay ROAD CERT, solve ROAD CERT, trial NUMBER, mass ROAD CERT\n";
+    b"usage: judge ROAD PLAN, check ROAD CERT, replay ROAD CERT, solve ROAD CERT, trial NUMBER, carry ROAD CERT NEW, mass ROAD CERT\n";
 
 /// What stands in the certificate's file before it is written.
 const OLD: &[u8] = b"old\n";

@@ -8,7 +8,7 @@ use Rattle.roadopt_program.proofs.commands.end_of_command.Goals as goal
 pub returns-in-Ok-clause-made : goal.returns-in-Ok-clause-made
 returns-in-Ok-clause-made g c =
     let told = g.S.Store.files c.args.store.now in
-    let command : RoadCommand = road_called c.args.command in
+    let command : RoadCommand = road_called c.args.command.now in
     let before = g.S.Store.read_faults c.args.store.now in
     let between = g.S.Store.read_faults c.find_road.new.store in
     let read : IsRoadRead told command.road before between (Ok c.in-Ok.road) = search rules in
@@ -18,7 +18,7 @@ returns-in-Ok-clause-made g c =
 pub returns-in-Err-clause-made : goal.returns-in-Err-clause-made
 returns-in-Err-clause-made g c =
     let told = g.S.Store.files c.args.store.now in
-    let command : RoadCommand = road_called c.args.command in
+    let command : RoadCommand = road_called c.args.command.now in
     let before = g.S.Store.read_faults c.args.store.now in
     let now = g.S.Store.read_faults c.find_road.new.store in
     let read : IsRoadRead told command.road before now (Err c.in-Err.ending) = search rules in
