@@ -1,17 +1,17 @@
 // What is proved of a box.
-ghost use Rattle.std.specs.Prelude.{◌≡◌, ◌+◌, ◌^◌, ◌<◌, ◌≤◌, length, pos, ◌≤ℤ◌, unsigned_abs, IfOk, OnOk, IfSome, IfNone};
+ghost use Rattle.std.specs.Prelude.{◌≡◌, ◌^◌, ◌<◌, ◌≤◌, length, pos, ◌≤ℤ◌, unsigned_abs, IfOk, IfSome, IfNone};
 ghost use Rattle.std.specs.Int.{int_max};
 ghost use Rattle.std.specs.List.{All};
 ghost use Rattle.algebra.specs.Scale.{IsScale, greatest_scale};
 ghost use Rattle.programs.specs.Programs.{Program, row_count};
 ghost use Rattle.safe_bounds.specs.Values.{value_of, IsMultiplier, AreMultipliers, HasRightSigns};
 ghost use Rattle.safe_bounds.specs.Narrowing.{AreNarrow, IsNarrowed};
-ghost use Rattle.branch_bound.specs.inside.Proving.{IsProvedOn, IsWritten, pushed_unless_zero, IsNumberPastLimit, IsGreatestOf};
+ghost use Rattle.branch_bound.specs.inside.Proving.{IsProvedOn, IsNumberPastLimit, IsGreatestOf};
 
 use crate::work::Proved;
 use algebra::GREATEST_SCALE;
+use cert_tree::written;
 use programs::Milp;
-use road_types::Listed;
 use safe_bounds::{Scratch, leaf_value, narrow};
 use std::alloc::{AllocError, Global};
 
@@ -79,31 +79,6 @@ pub(crate) fn value_on(
 {
     let mut scratch = Scratch::new(alloc, milp.columns())?;
     Ok(leaf_value(milp, scale, mults, &mut scratch))
-}
-
-/// Multipliers of each row as they are written down: pairs of a row's number, from 1, and a value that isn't 0.
-pub(crate) fn written(alloc: Global, mults: &[i128]) -> Result<Listed<(u32, i128)>, AllocError>
-    requires few { length mults.now ≤ 600 }
-    requires within { All IsMultiplier mults.now }
-    ensures { IfOk result (λ pairs. IsWritten mults.now (length mults.now) pairs) }
-{
-    let mut pairs = Vec::new(alloc);
-    for before in 0..mults.len() {
-        push_written(&mut pairs, before, mults[before])?;
-    }
-    Ok(Listed::new(pairs))
-}
-
-/// The multiplier of one more row is written down, unless it is 0.
-#[tactic(auto, using(crate::proofs::ProvingLemmas::pushed_some, crate::proofs::ProvingLemmas::pushed_none))]
-fn push_written(pairs: &mut Vec<(u32, i128)>, before: usize, mult: i128) -> Result<(), AllocError>
-    requires few { before < 600 }
-    ensures { OnOk result (pairs.new.items ≡ pushed_unless_zero pairs.old.items (before + 1) mult) }
-{
-    if mult != 0 {
-        pairs.push((before as u32 + 1, mult))?;
-    }
-    Ok(())
 }
 
 /// A number past the limit: the scale, or the magnitude of a multiplier. `None` where there is none.

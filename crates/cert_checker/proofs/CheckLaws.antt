@@ -19,6 +19,8 @@ use Rattle.cert_checker.specs.declared.refusal.Checked.{Checked}
 use Rattle.cert_checker.specs.declared.refusal.CheckErr.{CheckErr}
 use Rattle.cert_checker.specs.declared.refusal.CheckErr.TheVariants.{Refused, NoMemory}
 use Rattle.cert_checker.specs.declared.checking.Findings.{Findings}
+use Rattle.cert_checker.specs.declared.checking.Tried.{Tried}
+use Rattle.cert_checker.specs.declared.checking.Tried.TheVariants.{Everything}
 use Rattle.cert_checker.specs.Refusals.{refused, first_of, IsTreeRefusal, IsPlanRefusal, last_refusal, IsCertRefusal, IsFirstRefusal, Answers, IsNoValidText, RefusesRightly}
 use Rattle.cert_text.specs.Validity.{IsPlannedRight, IsBoundRight, IsValid, longest_text, IsAttained, IsUnbeaten, stated_cost}
 use Rattle.cert_checker.specs.Answered.{IsProved, IsAnswerOf}
@@ -39,13 +41,13 @@ right_plan road line (Some priced) found h (inl r) = absurd (r.0 h.0)
 right_plan road line (Some priced) found h (inr (inl r)) = absurd (r.1.0 h.1)
 right_plan road line (Some priced) found h (inr (inr r)) = r.1.1
 
-bound_right : (bound : Option Fraction) (low : Bool) (line : ℕ) → last_refusal bound low line ≡ None → IsBoundRight bound low
+pub bound_right : (bound : Option Fraction) (low : Bool) (line : ℕ) → last_refusal bound low line ≡ None → IsBoundRight bound low
 bound_right None true line e = cc
 bound_right None false line e = refl
 bound_right (Some bound) true line e = refl
 bound_right (Some bound) false line e = cc
 
-right_bound : (bound : Option Fraction) (low : Bool) (line : ℕ) → IsBoundRight bound low → last_refusal bound low line ≡ None
+pub right_bound : (bound : Option Fraction) (low : Bool) (line : ℕ) → IsBoundRight bound low → last_refusal bound low line ≡ None
 right_bound None true line h = cc
 right_bound None false line h = refl
 right_bound (Some bound) true line h = refl
@@ -75,11 +77,11 @@ unrefused road cert line found v r =
 
 -- ---- answers
 
-pub planned_of : (road : Road) → IsAccepted road → (bytes : List ℕ) (findings : Findings) → AreFound road bytes findings → IsPricedOrNone road findings.heading.planned
-planned_of road a bytes findings f =
+pub planned_of : (road : Road) → IsAccepted road → (bytes : List ℕ) (tried : Tried) (findings : Findings) → AreFound road bytes tried findings → IsPricedOrNone road findings.heading.planned
+planned_of road a bytes tried findings f =
     subst (IsPricedOrNone road) (sym f.planned_is) (cert_of_text-found road a.rows bytes f.cert f.read).has_text.planned
 
-refusal_of : (road : Road) (bytes : List ℕ) (findings : Findings) (found : Option Refusal) (f : AreFound road bytes findings) → IsFirstOfFindings road findings found → IsCertRefusal road f.cert findings.bound_line found
+refusal_of : (road : Road) (bytes : List ℕ) (findings : Findings) (found : Option Refusal) (f : AreFound road bytes Everything findings) → IsFirstOfFindings road findings found → IsCertRefusal road f.cert findings.bound_line found
 refusal_of road bytes findings found f r = record {
   plan = r.plan;
   tree = findings.walked.found;
@@ -88,7 +90,7 @@ refusal_of road bytes findings found f r = record {
   found_is = r.found_is ∙ ap₂ (λ b l. first_of r.plan (first_of findings.walked.found (last_refusal b l findings.bound_line))) f.bound_is f.low_is;
 }
 
-pub concluded : (road : Road) → IsAccepted road → (bytes : List ℕ) (findings : Findings) (found : Option Refusal) (result : Result Checked CheckErr) → length bytes ≤ longest_text → AreFound road bytes findings → IsFirstOfFindings road findings found → AnswersBy findings found result → Answers road bytes result
+pub concluded : (road : Road) → IsAccepted road → (bytes : List ℕ) (findings : Findings) (found : Option Refusal) (result : Result Checked CheckErr) → length bytes ≤ longest_text → AreFound road bytes Everything findings → IsFirstOfFindings road findings found → AnswersBy findings found result → Answers road bytes result
 concluded road a bytes findings None (Ok checked) short f r b =
     let text = cert_of_text-found road a.rows bytes f.cert f.read in
     record {
@@ -113,10 +115,10 @@ concluded road a bytes findings (Some refusal) (Err (Refused rule line)) short f
       },
     ))
 
-not_both : (cert : Certificate) (line : ℕ) (due : Result Certificate ℕ) → due ≡ Err line → due ≡ Ok cert → ⊥
+pub not_both : (cert : Certificate) (line : ℕ) (due : Result Certificate ℕ) → due ≡ Err line → due ≡ Ok cert → ⊥
 not_both cert line due e f = cc
 
-same_cert : (a b : Certificate) (due : Result Certificate ℕ) → due ≡ Ok a → due ≡ Ok b → a ≡ b
+pub same_cert : (a b : Certificate) (due : Result Certificate ℕ) → due ≡ Ok a → due ≡ Ok b → a ≡ b
 same_cert a b due e f = cc
 
 no_valid : (road : Road) → IsAccepted road → (bytes : List ℕ) (rule : CertRule) (line : ℕ) → IsFirstRefusal road bytes (refused rule line) → IsNoValidText road bytes

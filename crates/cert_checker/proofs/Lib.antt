@@ -4,3 +4,5 @@ pub mod ValidLaws
 pub mod FindLaws
 pub mod CheckLaws
 pub mod OneRefusal
+pub mod CarryLaws
+pub mod WidthLaws

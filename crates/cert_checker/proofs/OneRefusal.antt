@@ -17,7 +17,7 @@ use Rattle.cert_text.proofs.CertLaws.{cert_of_text-exact}
 use Rattle.cert_text.proofs.MisfitLaws.{refused_line-is}
 use Rattle.cert_text.specs.Misfits.{refused_line}
 use Rattle.cert_checker.specs.declared.refusal.Refusal.{Refusal}
-use Rattle.cert_checker.specs.Refusals.{refused, first_of, line_count, FindsNext, IsTreeRefusal, IsPlanRefusal, last_refusal, IsCertRefusal, EndsAtLine, stated_text, IsTextRefusal, IsFirstRefusal}
+use Rattle.cert_checker.specs.Refusals.{refused, first_of, line_count, FindsNext, IsTreeRefusal, IsPlanRefusal, last_refusal, IsCertRefusal, EndsAtLine, stated_text, IsTextRefusalBy, IsFirstRefusalBy, IsFirstRefusal}
 
 -- ---- so many first lines with a text are of one number
 
@@ -77,7 +77,7 @@ next_same : (sooner : Option Refusal) (A B : Type 0) (a b : Option Refusal) → 
 next_same None A B a b same p q = same p q
 next_same (Some refusal) A B a b same p q = p ∙ sym q
 
-one_tree : (road : Road) (bound : Option Fraction) (tree : BoxTree) (box : BoxRange) (line : ℕ) (a b : Option Refusal) → IsTreeRefusal road bound tree box line a → IsTreeRefusal road bound tree box line b → a ≡ b
+pub one_tree : (road : Road) (bound : Option Fraction) (tree : BoxTree) (box : BoxRange) (line : ℕ) (a b : Option Refusal) → IsTreeRefusal road bound tree box line a → IsTreeRefusal road bound tree box line b → a ≡ b
 one_tree road bound (low scale mults cause) box line a b p q = p ∙ sym q
 one_tree road bound (dead mults) box line a b p q = p ∙ sym q
 one_tree road bound (fork split first second) box line a b (inl p) (inl q) = p.1 ∙ sym q.1
@@ -117,25 +117,33 @@ same_line a b line e f = cc
 not_both : (cert : Certificate) (line : ℕ) (due : Result Certificate ℕ) → due ≡ Err line → due ≡ Ok cert → ⊥
 not_both cert line due e f = cc
 
-one_text : (road : Road) → IsAccepted road → (bytes : List ℕ) (a b : Option Refusal) → IsTextRefusal road bytes a → IsTextRefusal road bytes b → a ≡ b
-one_text road acc bytes a b p q =
+-- a certificate has one first refusal
+abbrev pub OneOf : (Certificate → ℕ → Option Refusal → Type 0) → Type 0
+OneOf refuses = (cert : Certificate) (line : ℕ) (a b : Option Refusal) → refuses cert line a → refuses cert line b → a ≡ b
+
+one_text : (refuses : Certificate → ℕ → Option Refusal → Type 0) → OneOf refuses → (road : Road) → IsAccepted road → (bytes : List ℕ) (a b : Option Refusal) → IsTextRefusalBy refuses road bytes a → IsTextRefusalBy refuses road bytes b → a ≡ b
+one_text refuses one road acc bytes a b p q =
     let same = same_ok q.cert p.cert (cert_of_text road bytes) (cert_of_text-exact road acc.rows bytes q.cert q.text) (cert_of_text-exact road acc.rows bytes p.cert p.text) in
     let ends = subst (λ c. EndsAtLine bytes (stated_text road c) q.line) same q.bound_line in
     let line = one_line bytes (stated_text road p.cert) q.line p.line ends p.bound_line in
-    one_cert road p.cert p.line a b p.refusal
-    (subst (λ l. IsCertRefusal road p.cert l b) line (subst (λ c. IsCertRefusal road c q.line b) same q.refusal))
+    one p.cert p.line a b p.refusal
+    (subst (λ l. refuses p.cert l b) line (subst (λ c. refuses c q.line b) same q.refusal))
+
+-- bytes have one first refusal where a certificate has one
+pub one_refusal_by : (refuses : Certificate → ℕ → Option Refusal → Type 0) → OneOf refuses → (road : Road) → IsAccepted road → (bytes : List ℕ) (a b : Option Refusal) → IsFirstRefusalBy refuses road bytes a → IsFirstRefusalBy refuses road bytes b → a ≡ b
+one_refusal_by refuses one road acc bytes a b (inl p) (inl q) = p.1 ∙ sym q.1
+one_refusal_by refuses one road acc bytes a b (inl p) (inr (inl q)) = let long = p.0 in let short = q.0 in absurd (omega (arith, long, short))
+one_refusal_by refuses one road acc bytes a b (inl p) (inr (inr q)) = let long = p.0 in let short = q.0 in absurd (omega (arith, long, short))
+one_refusal_by refuses one road acc bytes a b (inr (inl p)) (inl q) = let long = q.0 in let short = p.0 in absurd (omega (arith, long, short))
+one_refusal_by refuses one road acc bytes a b (inr (inr p)) (inl q) = let long = q.0 in let short = p.0 in absurd (omega (arith, long, short))
+one_refusal_by refuses one road acc bytes a b (inr (inl p)) (inr (inl q)) =
+    p.1.1.1 ∙ ap (refused _) (same_line p.1.0 q.1.0 (refused_line road bytes) p.1.1.0 q.1.1.0) ∙ sym q.1.1.1
+one_refusal_by refuses one road acc bytes a b (inr (inl p)) (inr (inr q)) =
+    absurd (not_both q.1.cert p.1.0 (cert_of_text road bytes) (refused_line-is road bytes p.1.0 p.1.1.0) (cert_of_text-exact road acc.rows bytes q.1.cert q.1.text))
+one_refusal_by refuses one road acc bytes a b (inr (inr p)) (inr (inl q)) =
+    absurd (not_both p.1.cert q.1.0 (cert_of_text road bytes) (refused_line-is road bytes q.1.0 q.1.1.0) (cert_of_text-exact road acc.rows bytes p.1.cert p.1.text))
+one_refusal_by refuses one road acc bytes a b (inr (inr p)) (inr (inr q)) = one_text refuses one road acc bytes a b p.1 q.1
 
 -- bytes have one first refusal
 pub one_refusal : (road : Road) → IsAccepted road → (bytes : List ℕ) (a b : Option Refusal) → IsFirstRefusal road bytes a → IsFirstRefusal road bytes b → a ≡ b
-one_refusal road acc bytes a b (inl p) (inl q) = p.1 ∙ sym q.1
-one_refusal road acc bytes a b (inl p) (inr (inl q)) = let long = p.0 in let short = q.0 in absurd (omega (arith, long, short))
-one_refusal road acc bytes a b (inl p) (inr (inr q)) = let long = p.0 in let short = q.0 in absurd (omega (arith, long, short))
-one_refusal road acc bytes a b (inr (inl p)) (inl q) = let long = q.0 in let short = p.0 in absurd (omega (arith, long, short))
-one_refusal road acc bytes a b (inr (inr p)) (inl q) = let long = q.0 in let short = p.0 in absurd (omega (arith, long, short))
-one_refusal road acc bytes a b (inr (inl p)) (inr (inl q)) =
-    p.1.1.1 ∙ ap (refused _) (same_line p.1.0 q.1.0 (refused_line road bytes) p.1.1.0 q.1.1.0) ∙ sym q.1.1.1
-one_refusal road acc bytes a b (inr (inl p)) (inr (inr q)) =
-    absurd (not_both q.1.cert p.1.0 (cert_of_text road bytes) (refused_line-is road bytes p.1.0 p.1.1.0) (cert_of_text-exact road acc.rows bytes q.1.cert q.1.text))
-one_refusal road acc bytes a b (inr (inr p)) (inr (inl q)) =
-    absurd (not_both p.1.cert q.1.0 (cert_of_text road bytes) (refused_line-is road bytes q.1.0 q.1.1.0) (cert_of_text-exact road acc.rows bytes p.1.cert p.1.text))
-one_refusal road acc bytes a b (inr (inr p)) (inr (inr q)) = one_text road acc bytes a b p.1 q.1
+one_refusal road acc bytes a b p q = one_refusal_by (IsCertRefusal road) (one_cert road) road acc bytes a b p q

@@ -71,13 +71,13 @@ no_sign_refusal program line (mult ∷ mults) h =
     let here = wrong_of program mult (row_at program mult.0).side refl (All-head P mult mults h) in
     cond-false _ _ _ here ∙ no_sign_refusal program (line + 1) mults (All-tail P mult mults h)
 
-are_sound : (road : Road) (box : BoxRange) (line : ℕ) (mults : List (ℕ × ℤ)) → AreMultipliersBehind (road_row_count road) 0 mults → sign_refusal (box_program road box) line mults ≡ None → AreSound road box mults
+pub are_sound : (road : Road) (box : BoxRange) (line : ℕ) (mults : List (ℕ × ℤ)) → AreMultipliersBehind (road_row_count road) 0 mults → sign_refusal (box_program road box) line mults ≡ None → AreSound road box mults
 are_sound road box line mults h e = record {
   on_rows = subst (λ n. AreMultipliersBehind n 0 mults) (sym (box_rows road box)) h;
   right_signs = signs-dense (box_program road box) mults (right_signs (box_program road box) line mults e);
 }
 
-no_sign : (road : Road) (box : BoxRange) (line : ℕ) (mults : List (ℕ × ℤ)) → AreSound road box mults → sign_refusal (box_program road box) line mults ≡ None
+pub no_sign : (road : Road) (box : BoxRange) (line : ℕ) (mults : List (ℕ × ℤ)) → AreSound road box mults → sign_refusal (box_program road box) line mults ≡ None
 no_sign road box line mults h =
     let program = box_program road box in
     no_sign_refusal program line mults (signs_of_pairs program mults (rises_by_row (row_count program) 0 mults (omega arith) h.on_rows) h.right_signs)
@@ -95,13 +95,13 @@ met_bound (Some bound) line value scale h =
     let test : false ≡ int_lt (value *ℤ bound.den) (bound.num *ℤ scale) = omega (arith, ints, h) in
     cond-false _ _ _ (sym test)
 
-value_met : (line : ℕ) (value : ℤ) → value_refusal line value ≡ None → pos 0 <ℤ value
+pub value_met : (line : ℕ) (value : ℤ) → value_refusal line value ≡ None → pos 0 <ℤ value
 value_met line value e = elim (cases_Bool (int_lt (pos 0) value)) [
   | inl yes' ↦ omega (arith, ints, yes')
   | inr no' ↦ let bad = sym (cond-false _ _ _ no') ∙ e in cc
 ]
 
-met_value : (line : ℕ) (value : ℤ) → pos 0 <ℤ value → value_refusal line value ≡ None
+pub met_value : (line : ℕ) (value : ℤ) → pos 0 <ℤ value → value_refusal line value ≡ None
 met_value line value h = let test : true ≡ int_lt (pos 0) value = omega (arith, ints, h) in cond-true _ _ _ (sym test)
 
 -- ---- trees

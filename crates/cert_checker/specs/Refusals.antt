@@ -133,20 +133,24 @@ abbrev pub stated_text : Road → Certificate → List ℕ
 stated_text road cert =
     spelled_words (codes "certificate" ∷ []) ++ (planned_text road cert.planned ++ spelled_words (bound_words cert.bound))
 
--- the bytes are the text of a certificate, which is refused so or isn't
-pub record IsTextRefusal (road : Road) (bytes : List ℕ) (found : Option Refusal) : Type 0 where
+-- the bytes are the text of a certificate, which is refused so or isn't, by what refuses a certificate whose bound stands on a line
+pub record IsTextRefusalBy (refuses : Certificate → ℕ → Option Refusal → Type 0) (road : Road) (bytes : List ℕ) (found : Option Refusal) : Type 0 where
   pub cert : Certificate
   pub text : IsCertText road bytes cert
   pub line : ℕ
   pub bound_line : EndsAtLine bytes (stated_text road cert) line
-  pub refusal : IsCertRefusal road cert line found
+  pub refusal : refuses cert line found
+
+-- the first refusal of the bytes, or none, by what refuses a certificate
+abbrev pub IsFirstRefusalBy : (Certificate → ℕ → Option Refusal → Type 0) → Road → List ℕ → Option Refusal → Type 0
+IsFirstRefusalBy refuses road bytes found =
+    ((longest_text < length bytes) × (found ≡ refused C1 0))
+    ⊎ ((length bytes ≤ longest_text) × ((line : ℕ) × ((refused_line road bytes ≡ Some line) × (found ≡ refused C2 line))))
+    ⊎ ((length bytes ≤ longest_text) × IsTextRefusalBy refuses road bytes found)
 
 -- the first refusal of the bytes, or none
 abbrev pub IsFirstRefusal : Road → List ℕ → Option Refusal → Type 0
-IsFirstRefusal road bytes found =
-    ((longest_text < length bytes) × (found ≡ refused C1 0))
-    ⊎ ((length bytes ≤ longest_text) × ((line : ℕ) × ((refused_line road bytes ≡ Some line) × (found ≡ refused C2 line))))
-    ⊎ ((length bytes ≤ longest_text) × IsTextRefusal road bytes found)
+IsFirstRefusal road bytes found = IsFirstRefusalBy (IsCertRefusal road) road bytes found
 
 -- an answer accepts the text of a valid certificate with what it states, or refuses the bytes by their first refusal; after want of
 -- memory nothing is said

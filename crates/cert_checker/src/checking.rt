@@ -1,4 +1,4 @@
-// The check of a certificate.
+// The check of a certificate, and what of it lasts when costs change.
 ghost use Rattle.std.specs.Prelude.{◌≡◌, ◌≤◌, ◌^◌, IsTrue, ◌↔◌, None, Some, IfOk, unsigned_abs, length};
 ghost use Rattle.algebra.specs.Scale.{IsScale};
 ghost use Rattle.numbers.specs.Fractions.{HasValue};
@@ -6,19 +6,31 @@ ghost use Rattle.road_types.specs.Faults.{road_fault};
 ghost use Rattle.plan_text.specs.PlanText.{HasText};
 ghost use Rattle.cert_text.specs.CertText.{IsStated, IsPricedOrNone};
 ghost use Rattle.cert_text.specs.Validity.{longest_text, stated_cost};
+ghost use Rattle.cert_tree.specs.Soundness.{SoundTreesBound};
 ghost use Rattle.cert_checker.specs.Answered.{IsProved};
+ghost use Rattle.cert_checker.specs.Widths.{HasNarrowValues};
 ghost use Rattle.cert_checker.specs.Refusals.{first_of, IsPlanRefusal, last_refusal, Answers, RefusesRightly, HasOneRefusal};
-ghost use Rattle.cert_checker.specs.inside.Findings.{FindsOrLine, AreFound, EndsText, IsFirstOfFindings, AnswersBy};
+ghost use Rattle.cert_checker.specs.Carriable.{IsRuleRefusal, IsFirstCarryRefusal, CarriableAnswers, RefusesUncarriable, HasOneCarryRefusal};
+ghost use Rattle.cert_checker.specs.inside.Findings.{bound_tried, FindsOrLine, AreFound, EndsText, IsFirstOfFindings, IsFirstLasting, TellsLasting, TellsRefusal, AnswersBy};
 
 use crate::refusal::{CertRule, CheckErr, Checked, Refusal};
 use crate::walk::{Walked, walk_tree};
-use cert_text::{Heading, LONGEST_TEXT, PricedPlan, read_end, read_heading};
+use cert_text::{Cert, Heading, LONGEST_TEXT, PricedPlan, read_cert, read_end, read_heading};
 use numbers::Frac;
 use plan_rules::{Verdict, judge};
 use plan_text::TextErr;
 use road_types::Road;
 use std::alloc::Global;
 use text_parts::Lines;
+
+/// What is tried of a certificate.
+#[derive(Clone, Copy)]
+pub(crate) enum Tried {
+    /// All that a valid one has.
+    Everything,
+    /// What lasts when costs change: all but the stated cost, and the stated bound on the low leaves.
+    Lasting,
+}
 
 /// What one pass over the bytes finds.
 #[derive(Drop)]
@@ -58,6 +70,32 @@ fn priced_refusal(road: &Road, priced: &PricedPlan, line: usize) -> Option<Refus
                 })
             }
         }
+        Verdict::Broken { .. } => Some(Refusal {
+            rule: CertRule::C3,
+            line: 2,
+        }),
+    }
+}
+
+/// A plan that isn't admissible.
+fn rule_refusal(road: &Road, planned: &Option<PricedPlan>) -> Option<Refusal>
+    requires accepted { road_fault road.now ≡ None }
+    requires planned { IsPricedOrNone road.now planned.now }
+    ensures { IsRuleRefusal road.now planned.now result }
+{
+    match planned {
+        Some(priced) => broken_refusal(road, priced),
+        None => None,
+    }
+}
+
+fn broken_refusal(road: &Road, priced: &PricedPlan) -> Option<Refusal>
+    requires accepted { road_fault road.now ≡ None }
+    requires plan { HasText road.now priced.now.plan }
+    ensures { IsRuleRefusal road.now (Some priced.now) result }
+{
+    match judge(road, &priced.plan) {
+        Verdict::Admissible { .. } => None,
         Verdict::Broken { .. } => Some(Refusal {
             rule: CertRule::C3,
             line: 2,
@@ -112,10 +150,20 @@ fn read_nothing(lines: &mut Lines) -> Result<(), TextErr>
     Ok(())
 }
 
+/// The bound that the low leaves are tried on.
+fn bound_tried(tried: Tried, bound: &Option<Frac>) -> Option<Frac>
+    ensures { result ≡ bound_tried tried bound.now }
+{
+    match tried {
+        Tried::Everything => *bound,
+        Tried::Lasting => None,
+    }
+}
+
 /// Reads a certificate to its end and tells what is first refused in its tree.
-fn find(alloc: Global, road: &Road, bytes: &[u8]) -> Result<Findings, TextErr>
+fn find(alloc: Global, road: &Road, bytes: &[u8], tried: Tried) -> Result<Findings, TextErr>
     requires { road_fault road.now ≡ None }
-    ensures { FindsOrLine road.now bytes.now result }
+    ensures { FindsOrLine road.now bytes.now tried result }
 {
     let mut lines = Lines::over(bytes);
     let heading = match read_heading(alloc, road, bytes, &mut lines) {
@@ -123,7 +171,8 @@ fn find(alloc: Global, road: &Road, bytes: &[u8]) -> Result<Findings, TextErr>
         Err(error) => return Err(error),
     };
     let bound_line = lines.number();
-    let walked = match walk_tree(alloc, road, &heading.bound, &mut lines) {
+    let bound = bound_tried(tried, &heading.bound);
+    let walked = match walk_tree(alloc, road, &bound, &mut lines) {
         Ok(walked) => walked,
         Err(error) => {
             // Dropped by name, which is one step in the proof.
@@ -151,6 +200,18 @@ fn find(alloc: Global, road: &Road, bytes: &[u8]) -> Result<Findings, TextErr>
     }
 }
 
+/// What is refused behind the plan: in the tree, or that a bound stands or doesn't.
+fn rest_refusal(findings: &Findings) -> Option<Refusal>
+    ensures { result ≡ first_of findings.now.walked.found (last_refusal findings.now.heading.bound findings.now.walked.has_low findings.now.bound_line) }
+{
+    let last = last_refusal(
+        &findings.heading.bound,
+        findings.walked.has_low,
+        findings.bound_line,
+    );
+    first_of(findings.walked.found, last)
+}
+
 /// The first refusal of what was found.
 fn first_refusal(road: &Road, findings: &Findings) -> Option<Refusal>
     requires accepted { road_fault road.now ≡ None }
@@ -162,12 +223,7 @@ fn first_refusal(road: &Road, findings: &Findings) -> Option<Refusal>
         &findings.heading.planned,
         findings.bound_line.saturating_sub(1),
     );
-    let last = last_refusal(
-        &findings.heading.bound,
-        findings.walked.has_low,
-        findings.bound_line,
-    );
-    first_of(planned, first_of(findings.walked.found, last))
+    first_of(planned, rest_refusal(findings))
 }
 
 /// The stated cost.
@@ -197,7 +253,7 @@ fn answer(findings: &Findings, refusal: Option<Refusal>) -> Result<Checked, Chec
 fn conclude(road: &Road, bytes: &[u8], findings: Findings) -> Result<Checked, CheckErr>
     requires accepted { road_fault road.now ≡ None }
     requires short { length bytes.now ≤ longest_text }
-    requires found { AreFound road.now bytes.now findings }
+    requires found { AreFound road.now bytes.now Tried.Everything findings }
     ensures { Answers road.now bytes.now result }
 {
     let refusal = first_refusal(road, &findings);
@@ -224,7 +280,7 @@ fn answer_bytes(alloc: Global, road: &Road, bytes: &[u8]) -> Result<Checked, Che
             line: 0,
         });
     }
-    match find(alloc, road, bytes) {
+    match find(alloc, road, bytes, Tried::Everything) {
         Ok(findings) => conclude(road, bytes, findings),
         Err(TextErr::Bad { line }) => Err(CheckErr::Refused {
             rule: CertRule::C2,
@@ -237,13 +293,107 @@ fn answer_bytes(alloc: Global, road: &Road, bytes: &[u8]) -> Result<Checked, Che
 /// Checks a certificate of an accepted road, from any maker. `Ok`, with the stated cost and bound, comes exactly where the bytes are the
 /// text of a valid certificate, of at most 2^26 bytes: then the cost is that of an admissible plan which stands in the bytes, no
 /// admissible plan costs less than the bound, and without a bound no plan is admissible. `Refused` tells the first broken rule with its
-/// line. One leaf is held at a time.
+/// line. One leaf is held at a time. None is refused for a width: what is compared has a magnitude of at most 2^126.
 pub fn check(alloc: Global, road: &Road, bytes: &[u8]) -> Result<Checked, CheckErr>
     requires { road_fault road.now ≡ None }
     ensures answer { Answers road.now bytes.now result }
     ensures rightly { RefusesRightly road.now bytes.now result }
     ensures proved { IfOk result (IsProved road.now bytes.now) }
     ensures one { HasOneRefusal road.now bytes.now }
+    ensures any_sound { SoundTreesBound road.now }
+    ensures narrow { HasNarrowValues road.now }
 {
     answer_bytes(alloc, road, bytes)
+}
+
+/// The first refusal of what was found, but for the stated costs.
+fn lasting_refusal(road: &Road, findings: &Findings) -> Option<Refusal>
+    requires accepted { road_fault road.now ≡ None }
+    requires planned { IsPricedOrNone road.now findings.now.heading.planned }
+    ensures { IsFirstLasting road.now findings.now result }
+{
+    let broken = rule_refusal(road, &findings.heading.planned);
+    first_of(broken, rest_refusal(findings))
+}
+
+/// Tells a refusal, if there is one.
+fn told(refusal: Option<Refusal>) -> Result<(), CheckErr>
+    ensures { TellsRefusal refusal result }
+{
+    match refusal {
+        Some(Refusal { rule, line }) => Err(CheckErr::Refused { rule, line }),
+        None => Ok(()),
+    }
+}
+
+/// What is refused of what one pass found, but for the stated costs.
+fn conclude_lasting(road: &Road, bytes: &[u8], findings: Findings) -> Result<(), CheckErr>
+    requires accepted { road_fault road.now ≡ None }
+    requires short { length bytes.now ≤ longest_text }
+    requires found { AreFound road.now bytes.now Tried.Lasting findings }
+    ensures { TellsLasting road.now bytes.now result }
+{
+    let refusal = lasting_refusal(road, &findings);
+    drop(findings);
+    told(refusal)
+}
+
+/// Tells what is first refused in the bytes, but for the stated costs.
+fn try_lasting(alloc: Global, road: &Road, bytes: &[u8]) -> Result<(), CheckErr>
+    requires { road_fault road.now ≡ None }
+    ensures { TellsLasting road.now bytes.now result }
+{
+    if !is_short(bytes) {
+        return Err(CheckErr::Refused {
+            rule: CertRule::C1,
+            line: 0,
+        });
+    }
+    match find(alloc, road, bytes, Tried::Lasting) {
+        Ok(findings) => conclude_lasting(road, bytes, findings),
+        Err(TextErr::Bad { line }) => Err(CheckErr::Refused {
+            rule: CertRule::C2,
+            line,
+        }),
+        Err(TextErr::NoMemory) => Err(CheckErr::NoMemory),
+    }
+}
+
+/// Reads the certificate in which nothing lasting is refused.
+fn read_tried(alloc: Global, road: &Road, bytes: &[u8]) -> Result<Cert, CheckErr>
+    requires accepted { road_fault road.now ≡ None }
+    requires tried { IsFirstCarryRefusal road.now bytes.now None }
+    ensures { CarriableAnswers road.now bytes.now result }
+{
+    match read_cert(alloc, road, bytes) {
+        Ok(cert) => Ok(cert),
+        Err(TextErr::Bad { line }) => Err(CheckErr::Refused {
+            rule: CertRule::C2,
+            line,
+        }),
+        Err(TextErr::NoMemory) => Err(CheckErr::NoMemory),
+    }
+}
+
+fn answer_carriable(alloc: Global, road: &Road, bytes: &[u8]) -> Result<Cert, CheckErr>
+    requires { road_fault road.now ≡ None }
+    ensures { CarriableAnswers road.now bytes.now result }
+{
+    match try_lasting(alloc, road, bytes) {
+        Ok(()) => read_tried(alloc, road, bytes),
+        Err(error) => Err(error),
+    }
+}
+
+/// The certificate of an accepted road whose text the bytes are, where its bound can be carried to the costs of this road: `Ok` comes
+/// exactly where they are at most 2^26, the plan is admissible, the splits fit, the leaves prove what they can, and a bound stands
+/// exactly where some leaf is low. The stated cost and bound may be any. `Refused` tells the first broken rule, of all but `C4` and
+/// `C7`, with its line, numbered as `check` numbers it.
+pub fn carriable(alloc: Global, road: &Road, bytes: &[u8]) -> Result<Cert, CheckErr>
+    requires { road_fault road.now ≡ None }
+    ensures answer { CarriableAnswers road.now bytes.now result }
+    ensures rightly { RefusesUncarriable road.now bytes.now result }
+    ensures one { HasOneCarryRefusal road.now bytes.now }
+{
+    answer_carriable(alloc, road, bytes)
 }

@@ -7,5 +7,5 @@ mod leaf;
 mod refusal;
 mod walk;
 
-pub use checking::check;
+pub use checking::{carriable, check};
 pub use refusal::{CertRule, CheckErr, Checked, Refusal};

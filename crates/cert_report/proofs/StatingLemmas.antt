@@ -19,7 +19,7 @@ use Rattle.cert_checker.specs.Answered.{IsAnswerOf, IsProved}
 use Rattle.cert_checker.specs.declared.refusal.Checked.{Checked}
 use Rattle.cert_report.specs.CertReport.{open_leaves}
 use Rattle.cert_report.specs.inside.Counting.{IsWholeCount}
-use Rattle.cert_report.specs.inside.Stating.{States, HasReport}
+use Rattle.cert_report.specs.inside.Stating.{States, StatesHeading, HasReport}
 
 -- the heading of a certificate, and the text behind it
 abbrev pub heading_of : Certificate → Heading
@@ -59,6 +59,18 @@ heading_failed road bytes before after (Bad line) cert s e h =
     let read = (heading_spells road).complete (start_of bytes) 0 (heading_of cert) rest (h.has_text.planned, h.has_text.bound) (ap (lines_of 0) (h.is_text ∙ parts_of_text road cert)) in
     not_ok (heading_due road before) line (heading_of cert, read.0) e (ap (heading_due road) s ∙ read.2)
 heading_failed road bytes before after NoMemory cert s e h = tt
+
+no_heading : (cert : Certificate) (error : TextErr) → States cert (Err error) → StatesHeading cert (Err error)
+no_heading cert (Bad line) h = h
+no_heading cert NoMemory h = tt
+
+-- what is read before the tree is what the certificate states
+pub reads_heading : (road : Road) (bytes : List ℕ) (before after : Reading) (answer : Result Heading TextErr) (cert : Certificate) → before ≡ start_of bytes
+    → Gives (heading_due road before) answer after → IsCertText road bytes cert → StatesHeading cert answer
+reads_heading road bytes before after (Ok heading) cert s e h =
+    let read = heading_read road bytes before after heading cert s e h in
+    record { planned_is = ap (λ (heading : Heading). heading.planned) read.heading_is; bound_is = ap (λ (heading : Heading). heading.bound) read.heading_is }
+reads_heading road bytes before after (Err error) cert s e h = no_heading cert error (heading_failed road bytes before after error cert s e h)
 
 pub not_counted : (cert : Certificate) (error : TextErr) → IsWholeCount (Err error) (open_leaves cert.tree) → States cert (Err error)
 not_counted cert (Bad line) h = h

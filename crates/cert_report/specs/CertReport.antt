@@ -1,5 +1,5 @@
--- The report of a certificate: of what it states and of the leaves of its tree that were left open, by cause. And what replaying the
--- bytes of a certificate gives.
+-- The report of a certificate: of what it states and of the leaves of its tree that were left open, by cause; and the mass diagram of the
+-- plan that it states. And what replaying the bytes of a certificate gives, and asking for its mass diagram.
 use Rattle.std.specs.Prelude.{◌≡◌, ℕ, ◌+◌, ⊤, Option, Some, None, Result, Ok, Err, List}
 use Rattle.road_types.specs.declared.road.Road.{Road}
 use Rattle.plan_rules.specs.declared.plan.Plan.{Plan}
@@ -15,6 +15,7 @@ use Rattle.cert_checker.specs.declared.refusal.CheckErr.{CheckErr}
 use Rattle.cert_checker.specs.declared.refusal.CheckErr.TheVariants.{Refused, NoMemory}
 use Rattle.report.specs.declared.findings.OpenLeaves.{OpenLeaves}
 use Rattle.report.specs.Lines.{Line, Adds}
+use Rattle.report.specs.Mass.{mass_lines}
 use Rattle.report.specs.Reports.{report_lines}
 
 -- 1 where a leaf was left open for the cause, else 0
@@ -50,11 +51,23 @@ plan_stated (Some priced) = Some priced.plan
 abbrev pub cert_lines : Road → Certificate → List Line
 cert_lines road cert = report_lines road (plan_stated cert.planned) cert.bound (open_leaves cert.tree)
 
--- the bytes are the text of a valid certificate, and its report was added
-pub record AddsReport (road : Road) (bytes before after : List ℕ) : Type 0 where
+-- the mass diagram of a certificate's plan
+abbrev pub cert_mass_lines : Road → Certificate → List Line
+cert_mass_lines road cert = mass_lines road (plan_stated cert.planned) cert.bound
+
+-- the bytes are the text of a valid certificate, and these lines of it were added
+pub record AddsLines (lines : Road → Certificate → List Line) (road : Road) (bytes before after : List ℕ) : Type 0 where
   pub cert : Certificate
   pub valid : IsValidText road bytes cert
-  pub adds : Adds (cert_lines road cert) before after
+  pub adds : Adds (lines road cert) before after
+
+-- its report
+abbrev pub AddsReport : Road → List ℕ → List ℕ → List ℕ → Type 0
+AddsReport road bytes before after = AddsLines cert_lines road bytes before after
+
+-- its mass diagram
+abbrev pub AddsMass : Road → List ℕ → List ℕ → List ℕ → Type 0
+AddsMass road bytes before after = AddsLines cert_mass_lines road bytes before after
 
 -- the bytes are the text of no valid certificate, this is first refused, and nothing was added
 pub record IsCertRefused (road : Road) (bytes : List ℕ) (rule : CertRule) (line : ℕ) (before after : List ℕ) : Type 0 where
@@ -62,8 +75,14 @@ pub record IsCertRefused (road : Road) (bytes : List ℕ) (rule : CertRule) (lin
   pub first : IsFirstRefusal road bytes (refused rule line)
   pub kept : after ≡ before
 
--- the report was added, or the bytes are refused; after want of memory nothing was added
+-- the lines were added, or the bytes are refused; after want of memory nothing was added
+abbrev pub AnswersWith : (Road → Certificate → List Line) → Road → List ℕ → List ℕ → Result ⊤ CheckErr → List ℕ → Type 0
+AnswersWith lines road bytes before (Ok nothing) after = AddsLines lines road bytes before after
+AnswersWith lines road bytes before (Err (Refused rule line)) after = IsCertRefused road bytes rule line before after
+AnswersWith lines road bytes before (Err NoMemory) after = after ≡ before
+
 abbrev pub AnswersReplay : Road → List ℕ → List ℕ → Result ⊤ CheckErr → List ℕ → Type 0
-AnswersReplay road bytes before (Ok nothing) after = AddsReport road bytes before after
-AnswersReplay road bytes before (Err (Refused rule line)) after = IsCertRefused road bytes rule line before after
-AnswersReplay road bytes before (Err NoMemory) after = after ≡ before
+AnswersReplay road bytes before answer after = AnswersWith cert_lines road bytes before answer after
+
+abbrev pub AnswersMass : Road → List ℕ → List ℕ → Result ⊤ CheckErr → List ℕ → Type 0
+AnswersMass road bytes before answer after = AnswersWith cert_mass_lines road bytes before answer after

@@ -39,7 +39,7 @@ fn read_stated(alloc: Global, road: &Road, bytes: &[u8]) -> Result<Stated, TextE
 }
 
 /// What was found, as a certificate states it.
-fn findings(heading: &Heading) -> Findings<'_>
+pub(crate) fn findings(heading: &Heading) -> Findings<'_>
     requires { heading.now.bound ≡ None → heading.now.planned ≡ None }
     ensures plan { plan_found result ≡ plan_stated heading.now.planned }
     ensures bound { bound_found result ≡ heading.now.bound }

@@ -14,4 +14,5 @@ pub mod ValidLaws
 pub mod LineCounts
 pub mod MisfitLaws
 pub mod ReadLaws
+pub mod NextMisfits
 mod WriteLemmas

@@ -21,15 +21,15 @@ use Rattle.cert_text.specs.inside.NodeReading.{next_of, line_due, no_form, mults
 use Rattle.cert_text.specs.inside.CertReading.{priced_due, unplanned_due, planned_with, planned_due, heading_due, tree_end_due, cert_due, value_with_nothing_left, whole_value, cert_of_text}
 
 -- behind what was read stands what its value says, or a line was refused
-abbrev Stops : {A : Type 0} → Result (A × Reading) ℕ → Option ℕ → (A → Misfit) → Type 0
+abbrev pub Stops : {A : Type 0} → Result (A × Reading) ℕ → Option ℕ → (A → Misfit) → Type 0
 Stops o misfit others = MatchResult o (λ p. misfit ≡ others p.0 p.1.number p.1.left) (λ line. misfit ≡ Some line)
 
 record Passes {A : Type 0} (read : Read A) (misfit : (A → Misfit) → Misfit) : Type 0 where
   passes : (before : Reading) (others : A → Misfit) → Stops (read before) (misfit others before.number before.left) others
 
 -- the same where the value says nothing of the lines behind
-record Skips {A : Type 0} (read : Read A) (misfit : Misfit → Misfit) : Type 0 where
-  skips : (before : Reading) (others : Misfit) → Stops (read before) (misfit others before.number before.left) (λ a. others)
+pub record Skips {A : Type 0} (read : Read A) (misfit : Misfit → Misfit) : Type 0 where
+  pub skips : (before : Reading) (others : Misfit) → Stops (read before) (misfit others before.number before.left) (λ a. others)
 
 value_passes : {A : Type 0} (lines : Reading) (o : Option A) (others : A → Misfit) → Stops (taken o lines) (value_or o others lines.number lines.left) others
 value_passes lines None others = refl
@@ -101,7 +101,7 @@ none_stops before (line ∷ lines) others = by_end line.ended
     by_end true = refl
     by_end false = refl
 
-tree_skips : (rows levels : ℕ) → Skips (tree_due rows levels) (tree_or rows levels)
+pub tree_skips : (rows levels : ℕ) → Skips (tree_due rows levels) (tree_or rows levels)
 unfolding line_due root_due
 tree_skips rows zero = record { skips = λ before others. none_stops before before.left others }
 tree_skips rows (suc levels) =

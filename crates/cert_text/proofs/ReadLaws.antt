@@ -61,7 +61,7 @@ none_as before (first ∷ others) line e = by_end first.ended e
     by_end true e = let same : before.number + 1 ≡ line = cc in ap (λ n. Err n) same
     by_end false e = let same : before.number + 1 ≡ line = cc in ap (λ n. Err n) same
 
-tree_bad : (rows level line : ℕ) (before : Reading) → root_on rows level before ≡ Err line → tree_due rows level before ≡ Err line
+pub tree_bad : (rows level line : ℕ) (before : Reading) → root_on rows level before ≡ Err line → tree_due rows level before ≡ Err line
 unfolding line_due
 tree_bad rows zero line before e = none_as before before.left line e
 tree_bad rows (suc level) line before e = ap (λ o. then_read o (tree_behind (tree_due rows level))) e

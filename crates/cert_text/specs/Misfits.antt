@@ -1,8 +1,8 @@
 -- The forms that are due for the lines of a certificate, and the first line that isn't of the form due at its place: the line for which
 -- a text is refused. Which form is due depends on the lines before: a leaf's line says how many multipliers follow it, each row behind
 -- the one before, and a split is followed by two trees, which stand one level further on.
-use Rattle.std.specs.Prelude.{ℕ, ◌+◌, zero, suc, List, [], ◌∷◌, Option, Some, None, if◌then◌else◌, codes}
-use Rattle.text_parts.specs.Lines.{TextLine, lines_of}
+use Rattle.std.specs.Prelude.{ℕ, ◌≡◌, ◌+◌, zero, suc, List, [], ◌∷◌, Option, Some, None, if◌then◌else◌, codes}
+use Rattle.text_parts.specs.Lines.{TextLine, Reading, lines_of}
 use Rattle.road_types.specs.RoadPrograms.{row_count}
 use Rattle.road_types.specs.declared.road.Road.{Road}
 use Rattle.plan_text.specs.Misfits.{forms_due, misfit_or, nothing}
@@ -42,6 +42,15 @@ abbrev pub tree_or : ℕ → ℕ → Misfit → Misfit
 tree_or rows zero behind number lines = Some (number + 1)
 tree_or rows (suc levels) behind number lines =
     line_or (head_form rows) (node_or rows (tree_or rows levels) behind) number lines
+
+-- trees on these levels are due, one after another
+abbrev pub trees_or : ℕ → List ℕ → Misfit → Misfit
+trees_or rows [] behind = behind
+trees_or rows (level ∷ levels) behind = tree_or rows level (trees_or rows levels behind)
+
+-- the first line that isn't of the form due where trees on these levels are, whatever is due behind them
+abbrev pub IsMisfitOfTrees : ℕ → List ℕ → Reading → ℕ → Type 0
+IsMisfitOfTrees rows levels lines line = (behind : Misfit) → trees_or rows levels behind lines.number lines.left ≡ Some line
 
 -- a plan with its cost is due, or that there is no plan
 abbrev pub planned_or : Road → Misfit → Misfit

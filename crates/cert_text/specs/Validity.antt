@@ -1,5 +1,6 @@
 -- A certificate is valid where its plan is admissible and costs what is stated, a bound stands exactly where some leaf is low, and
--- the tree is sound on the box of all plans. Here stand valid certificates and their texts, and what they prove.
+-- the tree is sound on the box of all plans. Here stand valid certificates and their texts, what they prove, and which certificates can be
+-- carried to other costs.
 use Rattle.std.specs.Prelude.{ℕ, ◌≡◌, ◌^◌, ◌≤◌, List, length, Bool, true, false, Option, Some, None}
 use Rattle.numbers.specs.Fractions.{Fraction, IsLowest, HasValue}
 use Rattle.road_types.specs.declared.road.Road.{Road}
@@ -7,7 +8,8 @@ use Rattle.plan_rules.specs.Rules.{IsAdmissible}
 use Rattle.plan_rules.specs.Costs.{cost_of, Undercuts}
 use Rattle.plan_rules.specs.declared.plan.Plan.{Plan}
 use Rattle.milp_builder.specs.Boxes.{root_box}
-use Rattle.cert_tree.specs.Soundness.{IsSound, has_low}
+use Rattle.cert_tree.specs.Soundness.{IsSound, SplitsFit, has_low}
+use Rattle.cert_tree.specs.Proving.{HasProvingLeaves}
 use Rattle.cert_text.specs.declared.heading.PricedPlan.{PricedPlan}
 use Rattle.cert_text.specs.CertText.{Certificate, IsCertText}
 
@@ -31,6 +33,19 @@ pub record IsValid (road : Road) (cert : Certificate) : Type 0 where
   pub planned : IsPlannedRight road cert.planned
   pub bound : IsBoundRight cert.bound (has_low cert.tree)
   pub sound : IsSound road cert.bound cert.tree (root_box road)
+
+-- no plan, or an admissible one, whatever cost is stated
+abbrev pub IsPlanAdmissible : Road → Option PricedPlan → Type 0
+IsPlanAdmissible road None = Unit {0}
+IsPlanAdmissible road (Some priced) = IsAdmissible road priced.plan
+
+-- a certificate that can be carried to the road's costs, whatever cost and bound it states: its plan is admissible, a bound stands exactly
+-- where some leaf is low, each split fits, and every leaf proves what it can of its own box
+pub record IsCarriable (road : Road) (cert : Certificate) : Type 0 where
+  pub planned : IsPlanAdmissible road cert.planned
+  pub bound : IsBoundRight cert.bound (has_low cert.tree)
+  pub splits : SplitsFit road cert.tree (root_box road)
+  pub proving : HasProvingLeaves road cert.tree (root_box road)
 
 -- the greatest length of a certificate's text
 unfoldable pub longest_text : ℕ

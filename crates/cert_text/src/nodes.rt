@@ -1,6 +1,7 @@
 ghost use Rattle.std.specs.Prelude.{◌≡◌, ◌↔◌, ◌⊎◌, ℕ, ◌≤◌, ◌<◌, ◌+◌, ◌-◌, List, [], ◌∷◌, ◌++◌, drop, length, slice_get, IfOk, IfErr};
 ghost use Rattle.std.specs.Result.{IsOkAnd};
 ghost use Rattle.cert_text.specs.NodeText.{most_levels};
+ghost use Rattle.cert_text.specs.Misfits.{IsMisfitOfTrees};
 ghost use Rattle.cert_text.specs.Steps.{levels_after, step_text, NoNodeIsNext, AreDue, forest_text, IsStepAt};
 ghost use Rattle.text_parts.specs.Lines.{IsOfSource, text_of};
 ghost use Rattle.plan_text.specs.Taken.{Took};
@@ -53,7 +54,7 @@ impl NodeReader {
     /// The next node, whose lines alone are taken, or `End` where the tree is whole. A leaf's multipliers stand in the buffer,
     /// which stays as it is at a split and at the end. `Err` comes exactly where the tree isn't whole yet and the next lines
     /// aren't a node's or the node stands under more than 432 splits, with the number of the first line that isn't of the form due.
-    #[tactic(auto, using(crate::proofs::NextLaws::whole, crate::proofs::NextLaws::found, crate::proofs::NextLaws::only, crate::proofs::NextLaws::exact))]
+    #[tactic(auto, using(crate::proofs::NextLaws::whole, crate::proofs::NextLaws::found, crate::proofs::NextLaws::only, crate::proofs::NextLaws::exact, crate::proofs::NextMisfits::line_refused))]
     pub fn next(&mut self, lines: &mut Lines, leaf: &mut LeafBuf) -> Result<Step, usize>
         requires rows { self.old.rows ≤ 600 }
         requires room { self.old.rows ≤ leaf.old.room }
@@ -63,6 +64,7 @@ impl NodeReader {
         ensures whole { IfOk result (λ step. (step ≡ Step.End) ↔ (self.old.levels ≡ [])) }
         ensures found { IfOk result (λ step. Took lines.old lines.new (step_text step leaf.new.mults)) }
         ensures only { IfErr result (λ _. NoNodeIsNext self.old.rows self.old.levels lines.old) }
+        ensures line { IfErr result (λ line. IsMisfitOfTrees self.old.rows self.old.levels lines.old line) }
         ensures exact { (trees : List BoxTree) (rest : List ℕ) → AreDue self.old.rows self.old.levels trees
             → text_of lines.old.left ≡ forest_text trees ++ rest
             → IsOkAnd result (λ step. IsStepAt self.old.rows trees rest step leaf.old.mults leaf.new.mults self.new.levels lines.new) }

@@ -1,2 +1,3 @@
 pub mod Lift
 pub mod LeafLemmas
+pub mod WrittenLemmas

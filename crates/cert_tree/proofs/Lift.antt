@@ -19,7 +19,7 @@ use Rattle.milp_builder.specs.declared.boxes.BoxRange.{BoxRange}
 use Rattle.milp_builder.proofs.BoxLaws.{plans_are_points}
 use Rattle.milp_builder.proofs.Cover.{found_parts_cover}
 use Rattle.cert_tree.specs.Trees.{BoxTree, low, dead, fork}
-use Rattle.cert_tree.specs.Soundness.{box_mults, box_value, IsSoundLow, IsSoundDead, IsSound, Bounds, HasPositiveDen}
+use Rattle.cert_tree.specs.Soundness.{box_mults, box_value, IsSoundLow, IsSoundDead, IsSound, Bounds, HasPositiveDen, SoundTreesBound}
 
 -- from D*V <= S*C, n*S <= V*d and d >= 0: C*d < n*D doesn't hold where S and D are at least 1
 no_room : (den value scale cost num d : ℤ) → pos 1 ≤ℤ den → pos 1 ≤ℤ scale → pos 0 ≤ℤ d → (den *ℤ value) ≤ℤ (scale *ℤ cost) → (num *ℤ scale) ≤ℤ (value *ℤ d) → (cost *ℤ d) <ℤ (num *ℤ den) → ⊥
@@ -74,3 +74,6 @@ sound_bounds road a bound den (fork split first second) box fits h =
     both_bound road bound box (first_part box split) (second_part box split) cover
     (sound_bounds road a bound den first (first_part box split) cover.first_fits h.1)
     (sound_bounds road a bound den second (second_part box split) cover.second_fits h.2)
+
+pub sound_trees_bound : (road : Road) → IsAccepted road → SoundTreesBound road
+sound_trees_bound road a = record { each = λ bound tree box den fits h. sound_bounds road a bound den tree box fits h }

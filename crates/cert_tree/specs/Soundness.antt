@@ -11,7 +11,7 @@ use Rattle.plan_rules.specs.Rules.{IsAdmissible}
 use Rattle.plan_rules.specs.Costs.{Undercuts}
 use Rattle.safe_bounds.specs.Values.{value_of, HasRightSigns}
 use Rattle.safe_bounds.specs.Sparse.{dense}
-use Rattle.milp_builder.specs.Boxes.{IsInside}
+use Rattle.milp_builder.specs.Boxes.{IsBoxOf, IsInside}
 use Rattle.milp_builder.specs.BoxPrograms.{box_program}
 use Rattle.milp_builder.specs.Parts.{IsSplitOf, first_part, second_part}
 use Rattle.milp_builder.specs.declared.boxes.BoxRange.{BoxRange}
@@ -75,6 +75,10 @@ abbrev pub Bounds : Road → Option Fraction → BoxRange → Type 0
 Bounds road None box = (plan : Plan) → IsAdmissible road plan → IsInside road plan box → ⊥
 Bounds road (Some bound) box =
     (plan : Plan) → IsAdmissible road plan → IsInside road plan box → Undercuts road plan bound.num bound.den → ⊥
+
+-- every sound tree, over whichever box that fits the road, bounds the costs of the admissible plans inside
+pub record SoundTreesBound (road : Road) : Type 0 where
+  pub each : (bound : Option Fraction) (tree : BoxTree) (box : BoxRange) → HasPositiveDen bound → IsBoxOf road box → IsSound road bound tree box → Bounds road bound box
 
 -- some leaf of the tree is low
 abbrev pub has_low : BoxTree → Bool

@@ -55,8 +55,9 @@ pub fn box_value(
     told_value(alloc, &milp, scale, mults)
 }
 
-/// One multiplier for each row.
-fn spread(alloc: Global, rows: usize, mults: &[(u32, i128)]) -> Result<Vec<i128>, AllocError>
+/// One multiplier for each of so many rows: those that the pairs tell, and 0. Rows are numbered from 1, and are asked to
+/// rise and to be at most the number of rows.
+pub fn spread(alloc: Global, rows: usize, mults: &[(u32, i128)]) -> Result<Vec<i128>, AllocError>
     requires { RisesByRow 0 rows mults.now }
     ensures { IfOk result (λ spread. spread.items ≡ dense rows mults.now) }
 {

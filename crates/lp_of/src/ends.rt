@@ -21,7 +21,7 @@ pub(crate) fn end_in<W: Whole>(
     if how == "brief" {
         brief(alloc, &end)
     } else {
-        format!(in alloc; "{end:?}")
+        full(alloc, &end)
     }
 }
 
@@ -43,7 +43,8 @@ pub(crate) fn end_in_either<N: Whole, M: Whole>(
         let used = brief_use(alloc, &used)?;
         format!(in alloc; "{used} {end}")
     } else {
-        format!(in alloc; "{used:?} {end:?}")
+        let end = full(alloc, &end)?;
+        format!(in alloc; "{used:?} {end}")
     }
 }
 
@@ -68,6 +69,34 @@ fn brief(alloc: Global, end: &LpEnd) -> Result<String, AllocError> {
             let exchanges = trail.len();
             format!(in alloc; "wide after {exchanges} {op:?}")
         }
+    }
+}
+
+/// The end with all that is claimed of it: so without its rough numbers.
+fn full(alloc: Global, end: &LpEnd) -> Result<String, AllocError> {
+    match end {
+        LpEnd::Pivots {
+            trail,
+            scale,
+            mults,
+            ..
+        } => {
+            let (trail, mults) = (trail.as_slice(), mults.as_slice());
+            format!(in alloc; "Pivots {{ trail: {trail:?}, scale: {scale}, mults: {mults:?} }}")
+        }
+        LpEnd::Wide {
+            trail,
+            op,
+            scale,
+            mults,
+            ..
+        } => {
+            let (trail, mults) = (trail.as_slice(), mults.as_slice());
+            format!(in alloc;
+                "Wide {{ trail: {trail:?}, op: {op:?}, scale: {scale}, mults: {mults:?} }}"
+            )
+        }
+        _ => format!(in alloc; "{end:?}"),
     }
 }
 

@@ -2,3 +2,5 @@ pub mod LinesLemmas
 pub mod CellsLemmas
 pub mod WidthsLemmas
 pub mod OneReport
+pub mod MassLemmas
+pub mod ZoneLaws

@@ -23,7 +23,7 @@ pub said_added : (t before after : List ℕ) → after ≡ before ++ (t ++ codes
 said_added t before after e = alone_added (text t) t before after refl e
 
 -- a row
-row_added : (cells : List Cell) (shown : List (List ℕ)) (before after : List ℕ) → AreWrittenAs cells shown → after ≡ before ++ row_text default_writer shown
+pub row_added : (cells : List Cell) (shown : List (List ℕ)) (before after : List ℕ) → AreWrittenAs cells shown → after ≡ before ++ row_text default_writer shown
     → Adds (row cells ∷ []) before after
 row_added cells shown before after h e =
     line_added (row cells) (row_text default_writer shown) before after (record { shown = shown; are_shown = h; is_record = refl }) e

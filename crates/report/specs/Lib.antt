@@ -1,3 +1,4 @@
 pub mod Lines
+pub mod Mass
 pub mod Reports
 pub mod inside

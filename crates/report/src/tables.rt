@@ -19,7 +19,7 @@ use road_types::Road;
 use std::alloc::{AllocError, Global};
 
 /// Adds the name and the header of a table.
-fn push_heading(name: &str, header: &str, out: &mut Vec<u8>) -> Result<(), AllocError>
+pub(crate) fn push_heading(name: &str, header: &str, out: &mut Vec<u8>) -> Result<(), AllocError>
     ensures { IfOk result (λ _. Adds (said_line name.now ∷ said_line header.now ∷ []) out.old.items out.new.items) }
 {
     push_said(name, out)?;

@@ -5,18 +5,16 @@ use Rattle.std.specs.FinMap.{get}
 use Rattle.std.proofs.Common.{◌≡◌, sym, refl, subst}
 use Rattle.outside.specs.Files.{Files}
 use Rattle.road_types.specs.declared.road.Road.{Road}
-use Rattle.branch_bound.specs.declared.finding.Found.{Found}
 use Rattle.roadopt_program.specs.declared.ending.Ending.{Ending}
 use Rattle.roadopt_program.specs.declared.ending.Made.{Made}
-use Rattle.roadopt_program.specs.declared.forms.Verb.{Verb}
-use Rattle.roadopt_program.specs.declared.forms.Verb.TheVariants.{Judge, Check, Replay, Solve}
+use Rattle.roadopt_program.specs.declared.ending.Product.{Product}
 use Rattle.roadopt_program.specs.declared.inputs.Lost.{Lost}
 use Rattle.roadopt_program.specs.Due.{road_due, FollowsRoad, Follows}
 use Rattle.roadopt_program.specs.Ends.{End, missing_end}
-use Rattle.roadopt_program.specs.CommandWords.{RoadCommand}
+use Rattle.roadopt_program.specs.CommandWords.{Verb, Judge, Check, Replay, Solve, Mass, Carry, RoadCommand, name_written}
 use Rattle.roadopt_program.specs.Inputs.{IsGiven, IsGivenWithin, other_limit}
 use Rattle.roadopt_program.specs.Solving.{Solves}
-use Rattle.roadopt_program.specs.inside.Outcomes.{end_of, made_end, OfBytes, IsRoadRead, IsMadeOnRoad, IsMade}
+use Rattle.roadopt_program.specs.inside.Outcomes.{end_of, made_end, IsRoadRead, IsMadeOnRoad, IsMade}
 
 -- what the read of a file would give
 given_by : (told : Option Files) (name : List ℕ) (most : ℕ) → (given : Option (List ℕ)) × IsGiven told name most given
@@ -34,45 +32,43 @@ none_is_no_road (Some bytes) table road p e = cc
 
 -- ---- on an accepted road
 
-of_bytes : (verb : Verb) (road : Road) (name bytes : List ℕ) (found : Option Found) (end : End) → found ≡ None → OfBytes verb road bytes end → FollowsRoad verb road name (Some bytes) found end
-of_bytes Judge road name bytes found end none h = (none, h)
-of_bytes Check road name bytes found end none h = (none, h)
-of_bytes Replay road name bytes found end none h = (none, h)
-of_bytes Solve road name bytes found end none h = absurd h
-
-nowhere : (verb : Verb) (road : Road) (name : List ℕ) (most : ℕ) (found : Option Found) (end : End) → Some most ≡ other_limit verb → found ≡ None → end ≡ missing_end → FollowsRoad verb road name None found end
+nowhere : (verb : Verb) (road : Road) (name : List ℕ) (most : ℕ) (found : Option Product) (end : End) → Some most ≡ other_limit verb → found ≡ None → end ≡ missing_end → FollowsRoad verb road name None found end
 nowhere Judge road name most found end reads none h = (none, h)
 nowhere Check road name most found end reads none h = (none, h)
 nowhere Replay road name most found end reads none h = (none, h)
+nowhere Mass road name most found end reads none h = (none, h)
+nowhere (Carry new) road name most found end reads none h = (none, h)
 nowhere Solve road name most found end reads none h = cc
 
-by_search : (verb : Verb) (road : Road) (name : List ℕ) (found : Option Found) (end : End) → None ≡ other_limit verb → Solves road name found end → FollowsRoad verb road name None found end
+by_search : (verb : Verb) (road : Road) (name : List ℕ) (found : Option Product) (end : End) → None ≡ other_limit verb → Solves road name found end → FollowsRoad verb road name None found end
 by_search Judge road name found end reads h = cc
 by_search Check road name found end reads h = cc
 by_search Replay road name found end reads h = cc
+by_search Mass road name found end reads h = cc
+by_search (Carry new) road name found end reads h = cc
 by_search Solve road name found end reads h = h
 
 within : (told : Option Files) (name : List ℕ) (most : ℕ) (limit : Option ℕ) (given : Option (List ℕ)) → Some most ≡ limit → IsGiven told name most given → IsGivenWithin told name limit given
 within told name most limit given e g = subst (λ (l : Option ℕ). IsGivenWithin told name l given) e g
 
 -- the further file was read
-pub made_of_bytes : (told : Option Files) (command : RoadCommand) (road : Road) (most : ℕ) (bytes : List ℕ) (end : End) (made : Made)
-    → Some most ≡ other_limit command.verb → IsGiven told command.other most (Some bytes) → OfBytes command.verb road bytes end
-    → made.found ≡ None → made_end command.other made ≡ end → IsMadeOnRoad told command road made
-made_of_bytes told command road most bytes end made limit g h none is = record {
+pub made_of_bytes : (told : Option Files) (command : RoadCommand) (road : Road) (most : ℕ) (bytes : List ℕ) (made : Made)
+    → Some most ≡ other_limit command.verb → IsGiven told command.other most (Some bytes)
+    → ((name : List ℕ) → FollowsRoad command.verb road name (Some bytes) made.found (made_end name made)) → IsMadeOnRoad told command road made
+made_of_bytes told command road most bytes made limit g h = record {
   bytes = Some bytes;
   is_given = within told command.other most (other_limit command.verb) (Some bytes) limit g;
-  follows = of_bytes command.verb road command.other bytes made.found (made_end command.other made) none (subst (λ (e : End). OfBytes command.verb road bytes e) (sym is) h);
+  follows = h (name_written command);
 }
 
 -- it isn't there
 pub made_of_none : (told : Option Files) (command : RoadCommand) (road : Road) (most : ℕ) (made : Made)
     → Some most ≡ other_limit command.verb → IsGiven told command.other most None
-    → made.found ≡ None → made_end command.other made ≡ missing_end → IsMadeOnRoad told command road made
+    → made.found ≡ None → made_end (name_written command) made ≡ missing_end → IsMadeOnRoad told command road made
 made_of_none told command road most made limit g none is = record {
   bytes = None;
   is_given = within told command.other most (other_limit command.verb) None limit g;
-  follows = nowhere command.verb road command.other most made.found (made_end command.other made) limit none is;
+  follows = nowhere command.verb road (name_written command) most made.found (made_end (name_written command) made) limit none is;
 }
 
 -- the road was searched
@@ -81,7 +77,7 @@ pub made_by_search : (told : Option Files) (command : RoadCommand) (road : Road)
 made_by_search told command road made limit h = record {
   bytes = None;
   is_given = subst (λ (l : Option ℕ). IsGivenWithin told command.other l None) limit refl;
-  follows = by_search command.verb road command.other made.found (made_end command.other made) limit (h command.other);
+  follows = by_search command.verb road (name_written command) made.found (made_end (name_written command) made) limit (h (name_written command));
 }
 
 -- ---- after the road
@@ -92,7 +88,7 @@ made_on_road told command before mid now road made r m = record {
   due = record {
     given = record { road = r.bytes; table = r.table; other = m.bytes };
     are_given = record { road = r.is_given; table = r.table_given; other = m.is_given };
-    follows = subst (λ (x : Result Road End). Follows command.verb x command.other m.bytes made.found (made_end command.other made)) (sym r.makes) m.follows;
+    follows = subst (λ (x : Result Road End). Follows command.verb x (name_written command) m.bytes made.found (made_end (name_written command) made)) (sym r.makes) m.follows;
   };
   no_fault = λ e. absurd (none_is_no_road r.bytes r.table road r.makes e);
 }
@@ -112,7 +108,7 @@ made_early told command before now ending made r none is =
       due = record {
         given = record { road = r.bytes; table = r.table; other = other.0 };
         are_given = record { road = r.is_given; table = r.table_given; other = other.1 };
-        follows = subst (λ (x : Result Road End). Follows command.verb x command.other other.0 made.found (made_end command.other made)) (sym r.makes) (none, is command.other);
+        follows = subst (λ (x : Result Road End). Follows command.verb x (name_written command) other.0 made.found (made_end (name_written command) made)) (sym r.makes) (none, is (name_written command));
       };
       no_fault = r.no_fault;
     }

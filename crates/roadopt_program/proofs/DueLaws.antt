@@ -14,23 +14,24 @@ use Rattle.plan_text.specs.inside.PlanReading.{plan_of_text}
 use Rattle.plan_text.specs.Misfits.{refused_line}
 use Rattle.plan_text.proofs.AnswerLaws.{plan_of_text-exact}
 use Rattle.numbers.proofs.FractionsLemmas.{same_value_fraction}
-use Rattle.roadopt_program.specs.declared.forms.Verb.{Verb}
-use Rattle.roadopt_program.specs.declared.forms.Verb.TheVariants.{Judge, Check, Replay, Solve}
+use Rattle.roadopt_program.specs.declared.ending.Product.{Product}
+use Rattle.roadopt_program.specs.declared.ending.Product.TheVariants.{Searched, Carried}
 use Rattle.roadopt_program.specs.declared.status.Status.{Status}
 use Rattle.roadopt_program.specs.declared.status.Status.TheVariants.{Done, Gap, RoadRefused, PlanBroken, PlanRefused, CertRefused, Missing}
 use Rattle.roadopt_program.specs.Due.{◌>>=◌, keeps_rules, is_table_there, road_due, FollowsRoad, Follows, IsDueOnRoad, IsDue, Due}
 use Rattle.roadopt_program.specs.Ends.{End, said, missing_end}
-use Rattle.roadopt_program.specs.CommandWords.{RoadCommand, Command, on_road, trial, command_of}
+use Rattle.roadopt_program.specs.CommandWords.{Verb, Judge, Check, Replay, Solve, Mass, Carry, RoadCommand, Command, on_road, trial, command_of, name_written}
 use Rattle.roadopt_program.specs.Inputs.{GivenFiles, IsGivenWithin, IsGivenIfNamed, table_named, road_limit, other_limit}
 use Rattle.roadopt_program.specs.Judging.{PrintsFraction, PrintsFirstBroken, PrintsRefusedLine, OfPlan, JudgesText, OfPlanBytes, Judges}
 use Rattle.roadopt_program.specs.Printed.{plan_refused_line, broken_line, admissible_line, cert_refused_line, valid_line, trial_line, road_refused_line}
 use Rattle.roadopt_program.specs.CertChecking.{PrintsValid, PrintsRefusal, OfCertBytes, Checks}
-use Rattle.roadopt_program.specs.Replaying.{PrintsReport, OfReplayed, Replays}
+use Rattle.roadopt_program.specs.Replaying.{PrintsLines, OfReported, Reports}
 use Rattle.roadopt_program.specs.Solving.{HasStatus, SolvesBy}
+use Rattle.roadopt_program.specs.Carrying.{CarriesBytes, Carries}
 use Rattle.roadopt_program.specs.Trying.{TriesBy}
-use Rattle.report.specs.Lines.{AreLines}
+use Rattle.report.specs.Lines.{Line, AreLines}
 use Rattle.report.proofs.OneReport.{one_text}
-use Rattle.cert_report.specs.CertReport.{cert_lines}
+use Rattle.cert_report.specs.CertReport.{cert_lines, cert_mass_lines}
 use Rattle.road_types.specs.Accepted.{IsAccepted}
 use Rattle.numbers.specs.Fractions.{Fraction}
 use Rattle.cert_text.specs.Certs.{certificate_of}
@@ -41,6 +42,10 @@ use Rattle.cert_checker.specs.Refusals.{refused}
 use Rattle.cert_text.specs.Validity.{stated_cost}
 use Rattle.cert_checker.specs.declared.refusal.Refusal.{Refusal}
 use Rattle.cert_checker.proofs.OneRefusal.{one_refusal}
+use Rattle.cert_checker.proofs.CarryLaws.{one_carry_refusal}
+use Rattle.cert_checker.specs.Carriable.{IsCarriableCert, IsCarriableText, IsFirstCarryRefusal}
+use Rattle.cert_checker.specs.declared.refusal.CertRule.{CertRule}
+use Rattle.cert_text.specs.declared.cert.Cert.{Cert}
 use Rattle.cert_text.specs.CertText.{Certificate, IsCertText}
 use Rattle.cert_text.proofs.CertLaws.{cert_of_text-exact}
 use Rattle.road_types.proofs.AcceptedRoad.{IsAccepted-from_fault}
@@ -170,19 +175,20 @@ same_of_cert road acc bytes _ t l k a b = absurd a
 
 -- ---- the report is one
 
-same_report : (road : Road) (acc : IsAccepted road) (bytes l k : List ℕ) → PrintsReport road bytes l → PrintsReport road bytes k → l ≡ k
-same_report road acc bytes l k a b =
+same_report : (lines : Road → Certificate → List Line) (road : Road) (acc : IsAccepted road) (bytes l k : List ℕ) → PrintsLines lines road bytes l → PrintsLines lines road bytes k → l ≡ k
+same_report lines road acc bytes l k a b =
     let same = same_cert road acc bytes a.cert b.cert a.valid.text b.valid.text in
-    one_text (cert_lines road b.cert) l k (subst (λ c. AreLines (cert_lines road c) l) same a.report) b.report
+    one_text (lines road b.cert) l k (subst (λ c. AreLines (lines road c) l) same a.report) b.report
 
-same_replayed : (road : Road) (acc : IsAccepted road) (bytes : List ℕ) (s t : Status) (l k : List ℕ) → OfReplayed road bytes s l → OfReplayed road bytes t k → (s ≡ t) × (l ≡ k)
-same_replayed road acc bytes Done Done l k a b = (refl, same_report road acc bytes l k a b)
-same_replayed road acc bytes CertRefused CertRefused l k a b = (refl, same_refusal_line road acc bytes l k a b)
-same_replayed road acc bytes Done CertRefused l k a b = absurd (b.none a.cert a.valid)
-same_replayed road acc bytes CertRefused Done l k a b = absurd (a.none b.cert b.valid)
-same_replayed road acc bytes Done _ l k a b = absurd b
-same_replayed road acc bytes CertRefused _ l k a b = absurd b
-same_replayed road acc bytes _ t l k a b = absurd a
+same_reported : (lines : Road → Certificate → List Line) (road : Road) (acc : IsAccepted road) (bytes : List ℕ) (s t : Status) (l k : List ℕ)
+    → OfReported lines road bytes s l → OfReported lines road bytes t k → (s ≡ t) × (l ≡ k)
+same_reported lines road acc bytes Done Done l k a b = (refl, same_report lines road acc bytes l k a b)
+same_reported lines road acc bytes CertRefused CertRefused l k a b = (refl, same_refusal_line road acc bytes l k a b)
+same_reported lines road acc bytes Done CertRefused l k a b = absurd (b.none a.cert a.valid)
+same_reported lines road acc bytes CertRefused Done l k a b = absurd (a.none b.cert b.valid)
+same_reported lines road acc bytes Done _ l k a b = absurd b
+same_reported lines road acc bytes CertRefused _ l k a b = absurd b
+same_reported lines road acc bytes _ t l k a b = absurd a
 
 -- ---- the end is one
 
@@ -232,21 +238,40 @@ same_checked road (Some bytes) a b p q =
     let both = same_of_cert road (IsAccepted-from_fault road p.0) bytes a.status b.status a.output b.output p.1.0 q.1.0 in
     same_end a b both.0 both.1 (p.1.1 ∙ sym q.1.1)
 
-same_replay : (road : Road) (other : Option (List ℕ)) (a b : End) → Replays road other a → Replays road other b → a ≡ b
-same_replay road None a b p q = p ∙ sym q
-same_replay road (Some bytes) a b p q =
-    let both = same_replayed road (IsAccepted-from_fault road p.0) bytes a.status b.status a.output b.output p.1.0 q.1.0 in
+same_reports : (lines : Road → Certificate → List Line) (road : Road) (other : Option (List ℕ)) (a b : End) → Reports lines road other a → Reports lines road other b → a ≡ b
+same_reports lines road None a b p q = p ∙ sym q
+same_reports lines road (Some bytes) a b p q =
+    let both = same_reported lines road (IsAccepted-from_fault road p.0) bytes a.status b.status a.output b.output p.1.0 q.1.0 in
     same_end a b both.0 both.1 (p.1.1 ∙ sym q.1.1)
 
-same_on_road : (verb : Verb) (road : Road) (name : List ℕ) (other : Option (List ℕ)) (found : Option Found) (a b : End)
+-- ---- the end of what is carried is one
+
+same_carry_line : (road : Road) (acc : IsAccepted road) (bytes : List ℕ) (a b : CertRule) (n m : ℕ) → IsFirstCarryRefusal road bytes (refused a n) → IsFirstCarryRefusal road bytes (refused b m)
+    → cert_refused_line a n ≡ cert_refused_line b m
+unfolding line_of cert_refused_line
+same_carry_line road acc bytes a b n m p q = ap line_of (one_carry_refusal road acc bytes (refused a n) (refused b m) p q)
+
+same_carried : (road : Road) (name bytes : List ℕ) (found : Option Product) (a b : End) → CarriesBytes road name bytes found a → CarriesBytes road name bytes found b → a ≡ b
+same_carried road name bytes None a b p q =
+    p.end_is ∙ ap (λ l. said CertRefused l) (same_carry_line road (IsAccepted-from_fault road p.accepted) bytes p.rule q.rule p.number q.number p.first q.first) ∙ sym q.end_is
+same_carried road name bytes (Some (Carried cert)) a b p q = p.end_is ∙ sym q.end_is
+same_carried road name bytes _ a b p q = absurd p
+
+same_carries : (road : Road) (name : List ℕ) (given : Option (List ℕ)) (found : Option Product) (a b : End) → Carries road name given found a → Carries road name given found b → a ≡ b
+same_carries road name None found a b p q = p.1 ∙ sym q.1
+same_carries road name (Some bytes) found a b p q = same_carried road name bytes found a b p q
+
+same_on_road : (verb : Verb) (road : Road) (name : List ℕ) (other : Option (List ℕ)) (found : Option Product) (a b : End)
     → FollowsRoad verb road name other found a → FollowsRoad verb road name other found b → a ≡ b
 same_on_road Judge road name other found a b p q = same_judged road other a b p.1 q.1
 same_on_road Check road name other found a b p q = same_checked road other a b p.1 q.1
-same_on_road Replay road name other found a b p q = same_replay road other a b p.1 q.1
-same_on_road Solve road name other None a b p q = absurd p
-same_on_road Solve road name other (Some found) a b p q = same_solved road name found a b p q
+same_on_road Replay road name other found a b p q = same_reports cert_lines road other a b p.1 q.1
+same_on_road Mass road name other found a b p q = same_reports cert_mass_lines road other a b p.1 q.1
+same_on_road (Carry new) road name other found a b p q = same_carries road name other found a b p q
+same_on_road Solve road name other (Some (Searched found)) a b p q = same_solved road name found a b p q
+same_on_road Solve road name other _ a b p q = absurd p
 
-same_after : (verb : Verb) (made : Result Road End) (name : List ℕ) (other : Option (List ℕ)) (found : Option Found) (a b : End)
+same_after : (verb : Verb) (made : Result Road End) (name : List ℕ) (other : Option (List ℕ)) (found : Option Product) (a b : End)
     → Follows verb made name other found a → Follows verb made name other found b → a ≡ b
 same_after verb (Err early) name other found a b p q = p.1 ∙ sym q.1
 same_after verb (Ok road) name other found a b p q = same_on_road verb road name other found a b p q
@@ -256,24 +281,24 @@ same_within files name None a b p q = p ∙ sym q
 same_within files name (Some most) a b p q = p ∙ sym q
 
 -- what told files give is one
-given_is : (files : Files) (command : RoadCommand) (found other : Option Found) (a b : End) (p : IsDueOnRoad (Some files) command found a) (q : IsDueOnRoad (Some files) command other b) → q.given ≡ p.given
+given_is : (files : Files) (command : RoadCommand) (found other : Option Product) (a b : End) (p : IsDueOnRoad (Some files) command found a) (q : IsDueOnRoad (Some files) command other b) → q.given ≡ p.given
 given_is files command found other a b p q =
     let road : q.given.road ≡ p.given.road = q.are_given.road ∙ sym p.are_given.road in
     let named = subst (λ (r : Option (List ℕ)). IsGivenIfNamed (Some files) (table_named r) road_limit q.given.table) road q.are_given.table in
     let table = same_if_named files (table_named p.given.road) road_limit q.given.table p.given.table named p.are_given.table in
     same_given q.given p.given road table (same_within files command.other (other_limit command.verb) q.given.other p.given.other q.are_given.other p.are_given.other)
 
-same_due : (files : Files) (command : RoadCommand) (found : Option Found) (a b : End) → IsDueOnRoad (Some files) command found a → IsDueOnRoad (Some files) command found b → a ≡ b
+same_due : (files : Files) (command : RoadCommand) (found : Option Product) (a b : End) → IsDueOnRoad (Some files) command found a → IsDueOnRoad (Some files) command found b → a ≡ b
 same_due files command found a b p q =
-    same_after command.verb (road_due p.given.road p.given.table) command.other p.given.other found a b p.follows
-    (subst (λ (g : GivenFiles). Follows command.verb (road_due g.road g.table) command.other g.other found b) (given_is files command found found a b p q) q.follows)
+    same_after command.verb (road_due p.given.road p.given.table) (name_written command) p.given.other found a b p.follows
+    (subst (λ (g : GivenFiles). Follows command.verb (road_due g.road g.table) (name_written command) g.other found b) (given_is files command found found a b p q) q.follows)
 
-same_told_for : (files : Files) (command : Command) (found : Option Found) (a b : End) → IsDue (Some files) command found a → IsDue (Some files) command found b → a ≡ b
+same_told_for : (files : Files) (command : Command) (found : Option Product) (a b : End) → IsDue (Some files) command found a → IsDue (Some files) command found b → a ≡ b
 same_told_for files (on_road command) found a b p q = same_due files command found a b p q
-same_told_for files (trial number) None a b p q = absurd p
-same_told_for files (trial number) (Some found) a b p q = same_tried number found a b p q
+same_told_for files (trial number) (Some (Searched found)) a b p q = same_tried number found a b p q
+same_told_for files (trial number) _ a b p q = absurd p
 
-same_told : (files : Files) (words : List (List ℕ)) (found : Option Found) (a b : End) → Due (Some files) words found a → Due (Some files) words found b → a ≡ b
+same_told : (files : Files) (words : List (List ℕ)) (found : Option Product) (a b : End) → Due (Some files) words found a → Due (Some files) words found b → a ≡ b
 same_told files words found a b p q =
     let same : q.command ≡ p.command = same_some (command_of words) q.command p.command q.form p.form in
     same_told_for files p.command found a b p.is_due (subst (λ (c : Command). IsDue (Some files) c found b) same q.is_due)
@@ -285,30 +310,46 @@ one_end told words files found a b is p q =
 
 -- ---- a search stands behind an end or it doesn't
 
-some_search : (found other : Option Found) (a b : End) (verb : Verb) (road : Road) (name : List ℕ) (bytes : Option (List ℕ))
+-- a carriable text is that of a certificate whose bound can be carried
+pub carriable_text : (road : Road) (bytes : List ℕ) (cert : Cert) → IsCarriableCert road bytes cert → IsCarriableText road bytes (certificate_of cert)
+carriable_text road bytes cert c = record { short = c.short; text = record { has_text = c.text.spelled.has_text; is_text = c.text.is_text }; carriable = c.carriable }
+
+some_carried : (road : Road) (name bytes : List ℕ) (found other : Option Product) (a b : End) → CarriesBytes road name bytes found a → CarriesBytes road name bytes other b → found ≡ None → other ≡ None
+some_carried road name bytes None None a b p q none = refl
+some_carried road name bytes None (Some (Carried cert)) a b p q none = absurd (p.none (certificate_of q.given) (carriable_text road bytes q.given q.carriable))
+some_carried road name bytes None _ a b p q none = absurd q
+some_carried road name bytes _ other a b p q none = cc
+
+some_carries : (road : Road) (name : List ℕ) (given : Option (List ℕ)) (found other : Option Product) (a b : End) → Carries road name given found a → Carries road name given other b → found ≡ None → other ≡ None
+some_carries road name None found other a b p q none = q.0
+some_carries road name (Some bytes) found other a b p q none = some_carried road name bytes found other a b p q none
+
+some_search : (found other : Option Product) (a b : End) (verb : Verb) (road : Road) (name : List ℕ) (bytes : Option (List ℕ))
     → FollowsRoad verb road name bytes found a → FollowsRoad verb road name bytes other b → found ≡ None → other ≡ None
 some_search found other a b Judge road name bytes p q none = q.0
 some_search found other a b Check road name bytes p q none = q.0
 some_search found other a b Replay road name bytes p q none = q.0
+some_search found other a b Mass road name bytes p q none = q.0
+some_search found other a b (Carry new) road name bytes p q none = some_carries road name bytes found other a b p q none
 some_search None other a b Solve road name bytes p q none = absurd p
 some_search (Some f) other a b Solve road name bytes p q none = cc
 
-some_after : (found other : Option Found) (a b : End) (verb : Verb) (made : Result Road End) (name : List ℕ) (bytes : Option (List ℕ))
+some_after : (found other : Option Product) (a b : End) (verb : Verb) (made : Result Road End) (name : List ℕ) (bytes : Option (List ℕ))
     → Follows verb made name bytes found a → Follows verb made name bytes other b → found ≡ None → other ≡ None
 some_after found other a b verb (Err early) name bytes p q none = q.0
 some_after found other a b verb (Ok road) name bytes p q none = some_search found other a b verb road name bytes p q none
 
-none_on_road : (files : Files) (command : RoadCommand) (found other : Option Found) (a b : End) → IsDueOnRoad (Some files) command found a → IsDueOnRoad (Some files) command other b → found ≡ None → other ≡ None
+none_on_road : (files : Files) (command : RoadCommand) (found other : Option Product) (a b : End) → IsDueOnRoad (Some files) command found a → IsDueOnRoad (Some files) command other b → found ≡ None → other ≡ None
 none_on_road files command found other a b p q none =
-    some_after found other a b command.verb (road_due p.given.road p.given.table) command.other p.given.other p.follows
-    (subst (λ (g : GivenFiles). Follows command.verb (road_due g.road g.table) command.other g.other other b) (given_is files command found other a b p q) q.follows) none
+    some_after found other a b command.verb (road_due p.given.road p.given.table) (name_written command) p.given.other p.follows
+    (subst (λ (g : GivenFiles). Follows command.verb (road_due g.road g.table) (name_written command) g.other other b) (given_is files command found other a b p q) q.follows) none
 
-none_for : (files : Files) (command : Command) (other : Option Found) (a b : End) → IsDue (Some files) command None a → IsDue (Some files) command other b → other ≡ None
+none_for : (files : Files) (command : Command) (other : Option Product) (a b : End) → IsDue (Some files) command None a → IsDue (Some files) command other b → other ≡ None
 none_for files (on_road command) other a b p q = none_on_road files command None other a b p q refl
 none_for files (trial number) other a b p q = absurd p
 
 -- where an end is due without a search, every end that is due is
-pub without_search : (files : Files) (words : List (List ℕ)) (other : Option Found) (a b : End) → Due (Some files) words None a → Due (Some files) words other b → other ≡ None
+pub without_search : (files : Files) (words : List (List ℕ)) (other : Option Product) (a b : End) → Due (Some files) words None a → Due (Some files) words other b → other ≡ None
 without_search files words other a b p q =
     let same : q.command ≡ p.command = same_some (command_of words) q.command p.command q.form p.form in
     none_for files p.command other a b p.is_due (subst (λ (c : Command). IsDue (Some files) c other b) same q.is_due)
@@ -316,7 +357,7 @@ without_search files words other a b p q =
 -- ---- which ends are due
 
 -- without a search no file is written, and the end of a missing file is the one of its status; a search has an answer
-abbrev pub IsEndOf : Option Found → End → Type 0
+abbrev pub IsEndOf : Option Product → End → Type 0
 IsEndOf None end = (end.file ≡ None) × (IsTrue (may_be_due end.status) × (end.status ≡ Missing → end ≡ missing_end))
 IsEndOf (Some found) end = IsTrue (is_answer end.status)
 
@@ -337,11 +378,11 @@ cert_status road bytes Done l h = (refl, λ e. omega (arith, ap exit_status e))
 cert_status road bytes CertRefused l h = (refl, λ e. omega (arith, ap exit_status e))
 cert_status road bytes _ l h = absurd h
 
-replayed_status : (road : Road) (bytes : List ℕ) (s : Status) (l : List ℕ) → OfReplayed road bytes s l → IsTrue (may_be_due s) × (s ≡ Missing → ⊥)
+reported_status : (lines : Road → Certificate → List Line) (road : Road) (bytes : List ℕ) (s : Status) (l : List ℕ) → OfReported lines road bytes s l → IsTrue (may_be_due s) × (s ≡ Missing → ⊥)
 unfolding may_be_due
-replayed_status road bytes Done l h = (refl, λ e. omega (arith, ap exit_status e))
-replayed_status road bytes CertRefused l h = (refl, λ e. omega (arith, ap exit_status e))
-replayed_status road bytes _ l h = absurd h
+reported_status lines road bytes Done l h = (refl, λ e. omega (arith, ap exit_status e))
+reported_status lines road bytes CertRefused l h = (refl, λ e. omega (arith, ap exit_status e))
+reported_status lines road bytes _ l h = absurd h
 
 there_is : (end : End) → end.file ≡ None → IsTrue (may_be_due end.status) × (end.status ≡ Missing → ⊥) → IsEndOf None end
 there_is end file kind = (file, (kind.0, λ e. absurd (kind.1 e)))
@@ -354,46 +395,61 @@ checked_kind : (road : Road) (other : Option (List ℕ)) (end : End) → Checks 
 checked_kind road None end h = missing_is end h
 checked_kind road (Some bytes) end h = there_is end h.1.1 (cert_status road bytes end.status end.output h.1.0)
 
-replay_kind : (road : Road) (other : Option (List ℕ)) (end : End) → Replays road other end → IsEndOf None end
-replay_kind road None end h = missing_is end h
-replay_kind road (Some bytes) end h = there_is end h.1.1 (replayed_status road bytes end.status end.output h.1.0)
+reported_kind : (lines : Road → Certificate → List Line) (road : Road) (other : Option (List ℕ)) (end : End) → Reports lines road other end → IsEndOf None end
+reported_kind lines road None end h = missing_is end h
+reported_kind lines road (Some bytes) end h = there_is end h.1.1 (reported_status lines road bytes end.status end.output h.1.0)
 
 pub found_status : (s : Status) (cost bound : Option Fraction) → HasStatus s cost bound → IsTrue (is_answer s)
 found_status Done cost bound h = refl
 found_status Gap cost bound h = refl
 found_status _ cost bound h = absurd h
 
-no_search : (found : Option Found) (end : End) → found ≡ None → IsEndOf None end → IsEndOf found end
-no_search found end none h = subst (λ (f : Option Found). IsEndOf f end) (sym none) h
+no_search : (found : Option Product) (end : End) → found ≡ None → IsEndOf None end → IsEndOf found end
+no_search found end none h = subst (λ (f : Option Product). IsEndOf f end) (sym none) h
 
-road_kind : (verb : Verb) (road : Road) (name : List ℕ) (other : Option (List ℕ)) (found : Option Found) (end : End) → FollowsRoad verb road name other found end → IsEndOf found end
+refusal_is : (line : List ℕ) (end : End) → end ≡ said CertRefused line → IsEndOf None end
+unfolding may_be_due
+refusal_is line end h = (ap (λ e. e.file) h, (ap (λ e. may_be_due e.status) h, λ e. absurd (omega (arith, ap (λ x. exit_status x.status) h, ap exit_status e))))
+
+carried_kind : (road : Road) (name bytes : List ℕ) (found : Option Product) (end : End) → CarriesBytes road name bytes found end → IsEndOf found end
+carried_kind road name bytes None end h = refusal_is (cert_refused_line h.rule h.number) end h.end_is
+carried_kind road name bytes (Some (Carried cert)) end h = ap (λ e. is_answer e.status) h.end_is
+carried_kind road name bytes _ end h = absurd h
+
+carries_kind : (road : Road) (name : List ℕ) (given : Option (List ℕ)) (found : Option Product) (end : End) → Carries road name given found end → IsEndOf found end
+carries_kind road name None found end h = no_search found end h.0 (missing_is end h.1)
+carries_kind road name (Some bytes) found end h = carried_kind road name bytes found end h
+
+road_kind : (verb : Verb) (road : Road) (name : List ℕ) (other : Option (List ℕ)) (found : Option Product) (end : End) → FollowsRoad verb road name other found end → IsEndOf found end
 road_kind Judge road name other found end h = no_search found end h.0 (judged_kind road other end h.1)
 road_kind Check road name other found end h = no_search found end h.0 (checked_kind road other end h.1)
-road_kind Replay road name other found end h = no_search found end h.0 (replay_kind road other end h.1)
-road_kind Solve road name other None end h = absurd h
-road_kind Solve road name other (Some found) end h = found_status end.status found.cert.cost found.cert.bound h.status
+road_kind Replay road name other found end h = no_search found end h.0 (reported_kind cert_lines road other end h.1)
+road_kind Mass road name other found end h = no_search found end h.0 (reported_kind cert_mass_lines road other end h.1)
+road_kind (Carry new) road name other found end h = carries_kind road name other found end h
+road_kind Solve road name other (Some (Searched found)) end h = found_status end.status found.cert.cost found.cert.bound h.status
+road_kind Solve road name other _ end h = absurd h
 
 refused_is : (fault : Fault) (end : End) → end ≡ said RoadRefused (road_refused_line fault) → IsEndOf None end
 unfolding may_be_due
 refused_is fault end h = (ap (λ e. e.file) h, (ap (λ e. may_be_due e.status) h, λ e. absurd (omega (arith, ap (λ x. exit_status x.status) h, ap exit_status e))))
 
-kept_kind : (verb : Verb) (made : Result Road Fault) (name : List ℕ) (other : Option (List ℕ)) (found : Option Found) (end : End) → Follows verb (keeps_rules made) name other found end → IsEndOf found end
+kept_kind : (verb : Verb) (made : Result Road Fault) (name : List ℕ) (other : Option (List ℕ)) (found : Option Product) (end : End) → Follows verb (keeps_rules made) name other found end → IsEndOf found end
 kept_kind verb (Err fault) name other found end h = no_search found end h.0 (refused_is fault end h.1)
 kept_kind verb (Ok road) name other found end h = road_kind verb road name other found end h
 
-named_kind : (verb : Verb) (bytes : List ℕ) (named : Result (Option (List ℕ)) Fault) (table : Option (List ℕ)) (name : List ℕ) (other : Option (List ℕ)) (found : Option Found) (end : End)
+named_kind : (verb : Verb) (bytes : List ℕ) (named : Result (Option (List ℕ)) Fault) (table : Option (List ℕ)) (name : List ℕ) (other : Option (List ℕ)) (found : Option Product) (end : End)
     → Follows verb (keeps_rules named >>= (λ name. is_table_there name table >>= (λ csv. keeps_rules (road_of bytes csv)))) name other found end → IsEndOf found end
 named_kind verb bytes (Err fault) table name other found end h = no_search found end h.0 (refused_is fault end h.1)
 named_kind verb bytes (Ok None) table name other found end h = kept_kind verb (road_of bytes None) name other found end h
 named_kind verb bytes (Ok (Some tabled)) None name other found end h = no_search found end h.0 (missing_is end h.1)
 named_kind verb bytes (Ok (Some tabled)) (Some csv) name other found end h = kept_kind verb (road_of bytes (Some csv)) name other found end h
 
-due_kind : (verb : Verb) (road table : Option (List ℕ)) (name : List ℕ) (other : Option (List ℕ)) (found : Option Found) (end : End) → Follows verb (road_due road table) name other found end → IsEndOf found end
+due_kind : (verb : Verb) (road table : Option (List ℕ)) (name : List ℕ) (other : Option (List ℕ)) (found : Option Product) (end : End) → Follows verb (road_due road table) name other found end → IsEndOf found end
 unfolding road_due
 due_kind verb None table name other found end h = no_search found end h.0 (missing_is end h.1)
 due_kind verb (Some bytes) table name other found end h = named_kind verb bytes (table_name_of bytes) table name other found end h
 
-pub end_kind : (told : Option Files) (command : Command) (found : Option Found) (end : End) → IsDue told command found end → IsEndOf found end
-end_kind told (on_road command) found end due = due_kind command.verb due.given.road due.given.table command.other due.given.other found end due.follows
-end_kind told (trial number) None end due = absurd due
-end_kind told (trial number) (Some found) end due = found_status end.status found.cert.cost found.cert.bound due.status
+pub end_kind : (told : Option Files) (command : Command) (found : Option Product) (end : End) → IsDue told command found end → IsEndOf found end
+end_kind told (on_road command) found end due = due_kind command.verb due.given.road due.given.table (name_written command) due.given.other found end due.follows
+end_kind told (trial number) (Some (Searched found)) end due = found_status end.status found.cert.cost found.cert.bound due.status
+end_kind told (trial number) _ end due = absurd due

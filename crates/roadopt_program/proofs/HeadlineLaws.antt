@@ -1,8 +1,9 @@
--- The answers of `solve` and `trial` keep their promise.
-use Rattle.std.specs.Prelude.{ℕ, ◌⊎◌, ◌≤◌, IsTrue, Option, Some, None, IfSome, Result, Ok, List, [], ◌∷◌, ◌++◌, length, take, ℤ}
+-- The answers of `solve`, `trial` and `carry` keep their promise.
+use Rattle.std.specs.Prelude.{ℕ, ◌⊎◌, ◌≤◌, false, IsTrue, Option, Some, None, IfSome, Result, Ok, List, [], ◌∷◌, ◌++◌, length, take, ℤ}
 use Rattle.std.specs.Option.{option_map}
 use Rattle.std.specs.FinMap.{get}
 use Rattle.std.proofs.Common.{◌≡◌, inl, inr, arith, sym, ap, ap₂, subst, refl, append_assoc, ◌∙◌}
+use Rattle.std.proofs.lemmas.Bool.{false≢true}
 use Rattle.std.proofs.lemmas.List.{take_all}
 use Rattle.std.proofs.lemmas.List.Elements.{All-nil, All-cons, All-head, All-tail}
 use Rattle.std.specs.List.{All}
@@ -27,6 +28,8 @@ use Rattle.cert_text.specs.CertText.{IsCertText, cert_text}
 use Rattle.cert_text.specs.Certs.{priced_of, ArePaired, certificate_of}
 use Rattle.cert_text.specs.Validity.{IsValidText, IsUnbeaten, longest_text, stated_cost}
 use Rattle.cert_text.specs.declared.cert.Cert.{Cert}
+use Rattle.cert_text.proofs.ValidLaws.{valid_unbeaten}
+use Rattle.cert_checker.specs.Carriable.{IsCarriableCert}
 use Rattle.cert_report.specs.CertReport.{open_leaves, plan_stated, cert_lines}
 use Rattle.report.specs.Lines.{Line, AreLines}
 use Rattle.report.specs.Reports.{said_line, sizes_text, leaves_text, found_lines, found_tables, report_lines, profile_table, earthwork_table, haul_table, blocks_table, costs_table, plan_tables}
@@ -39,23 +42,25 @@ use Rattle.branch_bound.specs.Endings.{HasPlanAt, HasOpenBelow, IsNoStop, HasNoS
 use Rattle.branch_bound.specs.Found.{IsFound}
 use Rattle.branch_bound.specs.Noted.{Noted, low_with, dead_with, fork_with, tree_of, notes_of, IsShownLow, AreShown}
 use Rattle.branch_bound.specs.Searched.{IsSearched}
-use Rattle.roadopt_program.specs.declared.forms.Verb.TheVariants.{Check, Replay, Solve}
+use Rattle.roadopt_program.specs.declared.ending.Product.{Product}
+use Rattle.roadopt_program.specs.declared.ending.Product.TheVariants.{Searched, Carried}
 use Rattle.roadopt_program.specs.declared.status.Status.{Status}
-use Rattle.roadopt_program.specs.declared.status.Status.TheVariants.{Done, Gap, WriteFault, NoMemory}
+use Rattle.roadopt_program.specs.declared.status.Status.TheVariants.{Done, Gap, WriteFault, NoMemory, CertRefused}
 use Rattle.roadopt_program.specs.CertChecking.{PrintsValid, Checks}
 use Rattle.roadopt_program.specs.Replaying.{Replays}
 use Rattle.roadopt_program.specs.Due.{road_due, Follows, IsDueOnRoad, IsDue, Due}
-use Rattle.roadopt_program.specs.Ends.{End, Output, after_fault, files_with, said}
-use Rattle.roadopt_program.specs.CommandWords.{Command, on_road, trial, command_of}
-use Rattle.roadopt_program.specs.Headline.{IsRoadOf, IsOpenNote, ShowsOpenLeaf, ShowsWhy, SumsTo, IsSolved, HoldsCert, PutsOut, HasSolved, KeepsSolve, HasTried, KeepsTrial}
+use Rattle.roadopt_program.specs.Ends.{End, Output, after_fault, files_with, said, missing_end}
+use Rattle.roadopt_program.specs.CommandWords.{Check, Replay, Solve, Carry, Command, on_road, trial, command_of}
+use Rattle.roadopt_program.specs.Headline.{HasCarried, KeepsCarry, IsRoadOf, IsOpenNote, ShowsOpenLeaf, ShowsWhy, SumsTo, IsSolved, HoldsCert, PutsOut, HasSolved, KeepsSolve, HasTried, KeepsTrial}
 use Rattle.roadopt_program.specs.Inputs.{road_limit, cert_limit, IsGiven, IsGivenIfNamed, table_named}
-use Rattle.roadopt_program.specs.Printed.{valid_line, trial_line}
-use Rattle.roadopt_program.specs.Runs.{HandsOut, IsAnswered, IsGivenUp, AnswersSolve, AnswersTrial}
+use Rattle.roadopt_program.specs.Printed.{valid_line, carried_line, cert_refused_line, trial_line}
+use Rattle.roadopt_program.specs.Runs.{HandsOut, IsAnswered, IsGivenUp, AnswersSolve, AnswersCarry, AnswersTrial}
 use Rattle.roadopt_program.specs.Solving.{HasStatus, SolvesBy, Solves}
+use Rattle.roadopt_program.specs.Carrying.{CarriesBy, CarriesBytes, Carries}
 use Rattle.roadopt_program.specs.Trying.{TriesBy, Tries}
 use Rattle.roadopt_program.specs.Statuses.{is_answer}
 use Rattle.roadopt_program.specs.inside.Outcomes.{Prints, Outcome, TrialOutcome, TriesOnly}
-use Rattle.roadopt_program.proofs.DueLaws.{same_some, same_if_named, same_cert, end_kind, found_status}
+use Rattle.roadopt_program.proofs.DueLaws.{carriable_text, same_some, same_if_named, same_cert, end_kind, found_status}
 use Rattle.roadopt_program.proofs.RunLaws.{due_of, HasFailed, finished}
 use Rattle.roadopt_program.proofs.StatusLemmas.{answer_after_fault}
 
@@ -236,7 +241,7 @@ road_is files name road bytes table r b t =
     let table_is : table ≡ r.table = same_if_named files (table_named r.bytes) road_limit table r.table table_there r.table_given in
     ap₂ road_due bytes_are table_is ∙ r.made_is
 
-solves_road : (files : Files) (road_name cert_name : List ℕ) (road : Road) (found : Option Found) (end : End) → IsRoadOf (Some files) road_name (Ok road)
+solves_road : (files : Files) (road_name cert_name : List ℕ) (road : Road) (found : Option Product) (end : End) → IsRoadOf (Some files) road_name (Ok road)
     → IsDueOnRoad (Some files) (record { verb = Solve; road = road_name; other = cert_name }) found end → Solves road cert_name found end
 solves_road files road_name cert_name road found end r due =
     let made = road_is files road_name road due.given.road due.given.table r due.are_given.road due.are_given.table in
@@ -259,7 +264,7 @@ puts_out road road_name cert_name found end told files before now h whole file =
     }
 
 has_solved : (road : Road) (road_name cert_name : List ℕ) (found : Found) (end : End) (status : Status) (told files : Option Files) (before now : Output) (cert : Option Cert) (notes : List NodeNote)
-    → SolvesBy road cert_name found end → end.status ≡ status → GrewBy before.written end.output now.written → files ≡ files_with told end.file → HandsOut (Some found) cert notes
+    → SolvesBy road cert_name found end → end.status ≡ status → GrewBy before.written end.output now.written → files ≡ files_with told end.file → HandsOut (Some (Searched found)) cert notes
     → HasSolved road road_name cert_name cert notes status told files before now
 has_solved road road_name cert_name found end status told files before now cert notes h is whole file out =
     let solved = is_solved road found status h.is_found (subst (λ (s : Status). HasStatus s found.cert.cost found.cert.bound) is h.status) in
@@ -270,13 +275,13 @@ has_solved road road_name cert_name found end status told files before now cert 
       puts_out = puts_out road road_name cert_name found end told files before now h whole file;
     }
 
-solved_by : (road : Road) (road_name cert_name : List ℕ) (found : Option Found) (end : End) (status : Status) (told files : Option Files) (before now : Output) (cert : Option Cert) (notes : List NodeNote)
+solved_by : (road : Road) (road_name cert_name : List ℕ) (found : Option Product) (end : End) (status : Status) (told files : Option Files) (before now : Output) (cert : Option Cert) (notes : List NodeNote)
     → Solves road cert_name found end → end.status ≡ status → GrewBy before.written end.output now.written → files ≡ files_with told end.file → HandsOut found cert notes
     → HasSolved road road_name cert_name cert notes status told files before now
-solved_by road road_name cert_name None end status told files before now cert notes h is whole file out = absurd h
-solved_by road road_name cert_name (Some found) end status told files before now cert notes h is whole file out = has_solved road road_name cert_name found end status told files before now cert notes h is whole file out
+solved_by road road_name cert_name (Some (Searched found)) end status told files before now cert notes h is whole file out = has_solved road road_name cert_name found end status told files before now cert notes h is whole file out
+solved_by road road_name cert_name _ end status told files before now cert notes h is whole file out = absurd h
 
-due_of_words : (told : Option Files) (words : List (List ℕ)) (command : Command) (found : Option Found) (end : End) → command_of words ≡ Some command → Due told words found end → IsDue told command found end
+due_of_words : (told : Option Files) (words : List (List ℕ)) (command : Command) (found : Option Product) (end : End) → command_of words ≡ Some command → Due told words found end → IsDue told command found end
 due_of_words told words command found end form due = subst (λ (c : Command). IsDue told c found end) (same_some (command_of words) due.command command due.form form) due.is_due
 
 pub keeps_solve : (told : Option Files) (words : List (List ℕ)) (status : Status) (cert : Option Cert) (notes : List NodeNote) (files : Option Files) (before now : Output)
@@ -291,7 +296,7 @@ keeps_solve told words status cert notes files before now answers all road_name 
 -- ---- `trial`
 
 has_tried : (number : ℕ) (found : Found) (end : End) (status : Status) (told files : Option Files) (before now : Output) (cert : Option Cert) (notes : List NodeNote)
-    → TriesBy number found end → end.status ≡ status → GrewBy before.written end.output now.written → files ≡ files_with told end.file → HandsOut (Some found) cert notes
+    → TriesBy number found end → end.status ≡ status → GrewBy before.written end.output now.written → files ≡ files_with told end.file → HandsOut (Some (Searched found)) cert notes
     → HasTried number cert notes status told files before now
 has_tried number found end status told files before now cert notes h is whole file out =
     let road = trial_road number in
@@ -307,11 +312,11 @@ has_tried number found end status told files before now cert notes h is whole fi
       no_file = file ∙ ap (λ o. files_with told o) h.no_file;
     }
 
-tried_by : (number : ℕ) (found : Option Found) (end : End) (status : Status) (told files : Option Files) (before now : Output) (cert : Option Cert) (notes : List NodeNote)
+tried_by : (number : ℕ) (found : Option Product) (end : End) (status : Status) (told files : Option Files) (before now : Output) (cert : Option Cert) (notes : List NodeNote)
     → Tries number found end → end.status ≡ status → GrewBy before.written end.output now.written → files ≡ files_with told end.file → HandsOut found cert notes
     → HasTried number cert notes status told files before now
-tried_by number None end status told files before now cert notes h is whole file out = absurd h
-tried_by number (Some found) end status told files before now cert notes h is whole file out = has_tried number found end status told files before now cert notes h is whole file out
+tried_by number (Some (Searched found)) end status told files before now cert notes h is whole file out = has_tried number found end status told files before now cert notes h is whole file out
+tried_by number _ end status told files before now cert notes h is whole file out = absurd h
 
 pub keeps_trial : (told : Option Files) (words : List (List ℕ)) (status : Status) (cert : Option Cert) (notes : List NodeNote) (files : Option Files) (before now : Output)
     → (IsTrue (is_answer status) → IsAnswered told words status cert notes files before now) → KeepsTrial told words status cert notes files before now
@@ -321,15 +326,15 @@ keeps_trial told words status cert notes files before now answers number form an
 
 -- ---- a search that is asked for has an answer
 
-solves_answer : (road : Road) (name : List ℕ) (found : Option Found) (end : End) → Solves road name found end → IsTrue (is_answer end.status)
-solves_answer road name None end h = absurd h
-solves_answer road name (Some found) end h = found_status end.status found.cert.cost found.cert.bound h.status
+solves_answer : (road : Road) (name : List ℕ) (found : Option Product) (end : End) → Solves road name found end → IsTrue (is_answer end.status)
+solves_answer road name (Some (Searched found)) end h = found_status end.status found.cert.cost found.cert.bound h.status
+solves_answer road name _ end h = absurd h
 
-tries_answer : (number : ℕ) (found : Option Found) (end : End) → Tries number found end → IsTrue (is_answer end.status)
-tries_answer number None end h = absurd h
-tries_answer number (Some found) end h = found_status end.status found.cert.cost found.cert.bound h.status
+tries_answer : (number : ℕ) (found : Option Product) (end : End) → Tries number found end → IsTrue (is_answer end.status)
+tries_answer number (Some (Searched found)) end h = found_status end.status found.cert.cost found.cert.bound h.status
+tries_answer number _ end h = absurd h
 
-solve_answer : (files : Files) (words : List (List ℕ)) (command : Command) (found : Option Found) (end : End) (road_name cert_name : List ℕ) (road : Road) → command_of words ≡ Some command
+solve_answer : (files : Files) (words : List (List ℕ)) (command : Command) (found : Option Product) (end : End) (road_name cert_name : List ℕ) (road : Road) → command_of words ≡ Some command
     → IsDue (Some files) command found end → command_of words ≡ Some (on_road (record { verb = Solve; road = road_name; other = cert_name })) → IsRoadOf (Some files) road_name (Ok road) → IsTrue (is_answer end.status)
 solve_answer files words command found end road_name cert_name road form due asks r =
     let is = same_some (command_of words) command (on_road (record { verb = Solve; road = road_name; other = cert_name })) form asks in
@@ -366,6 +371,111 @@ trial_answers words command before now s cert notes form h number asks =
     trial_outcome_answers number before now s cert notes
     (subst (λ (c : Command). TriesOnly c before now s cert notes) (same_some (command_of words) command (trial number) form asks) h)
 
+-- ---- `carry`
+
+checks_carried : (road : Road) (bytes name : List ℕ) (cert : Cert) (end : End) → CarriesBy road bytes name cert end → length (cert_text road (certificate_of cert)) ≤ longest_text
+    → Checks road (Some (cert_text road (certificate_of cert))) (said Done (valid_line cert.cost cert.bound))
+checks_carried road bytes name cert end h short =
+    let text : IsCertText road (cert_text road (certificate_of cert)) (certificate_of cert) = record { has_text = h.spelled.has_text; is_text = refl } in
+    let prints : PrintsValid road (cert_text road (certificate_of cert)) (valid_line cert.cost cert.bound) = record {
+      checked = record { cost = cert.cost; bound = cert.bound };
+      answer = record {
+        cert = certificate_of cert;
+        valid = record { short = short; text = text; valid = h.carried.valid };
+        cost_is = paired_cost cert.plan cert.cost h.spelled.paired;
+        bound_is = refl;
+      };
+      line_is = refl;
+    } in
+    (h.accepted, (prints, refl))
+
+carries_road : (files : Files) (road_name cert_name new_name : List ℕ) (road : Road) (found : Option Product) (end : End) → IsRoadOf (Some files) road_name (Ok road)
+    → (due : IsDueOnRoad (Some files) (record { verb = Carry new_name; road = road_name; other = cert_name }) found end) → Carries road new_name due.given.other found end
+carries_road files road_name cert_name new_name road found end r due =
+    let made = road_is files road_name road due.given.road due.given.table r due.are_given.road due.are_given.table in
+    subst (λ (m : Result Road End). Follows (Carry new_name) m new_name due.given.other found end) made due.follows
+
+has_carried : (road : Road) (road_name cert_name new_name bytes : List ℕ) (made : Cert) (end : End) (status : Status) (told files : Option Files) (before now : Output) (cert : Option Cert) (notes : List NodeNote)
+    → CarriesBy road bytes new_name made end → IsGiven told cert_name cert_limit (Some bytes) → end.status ≡ status → GrewBy before.written end.output now.written → files ≡ files_with told end.file
+    → HandsOut (Some (Carried made)) cert notes → HasCarried road road_name cert_name new_name cert notes status told files before now
+has_carried road road_name cert_name new_name bytes made end status told files before now cert notes h given is whole file out = record {
+  cert = made;
+  handed_out = out.cert_is;
+  no_notes = out.notes_are;
+  done = sym is ∙ ap (λ (e : End). e.status) h.end_is;
+  bytes = bytes;
+  is_given = given;
+  given = h.given;
+  carriable = h.carriable;
+  carried = h.carried;
+  bound = valid_unbeaten road (IsAccepted-from_fault road h.accepted) (certificate_of made) h.spelled.has_text.bound h.carried.valid;
+  file = file ∙ ap (λ (e : End). files_with told e.file) h.end_is;
+  printed = subst (λ (l : List ℕ). GrewBy before.written l now.written) (ap (λ (e : End). e.output) h.end_is) whole;
+  accepted = λ short later held.
+      check_due later road_name new_name road (cert_text road (certificate_of made)) (said Done (valid_line made.cost made.bound)) short held (checks_carried road bytes new_name made end h short);
+}
+
+no_answer : (end other : End) → end ≡ other → is_answer other.status ≡ false → IsTrue (is_answer end.status) → ⊥
+no_answer end other h n answer = false≢true (sym n ∙ sym (ap (λ (e : End). is_answer e.status) h) ∙ answer)
+
+carried_bytes : (road : Road) (road_name cert_name new_name bytes : List ℕ) (found : Option Product) (end : End) (status : Status) (told files : Option Files) (before now : Output) (cert : Option Cert) (notes : List NodeNote)
+    → CarriesBytes road new_name bytes found end → IsGiven told cert_name cert_limit (Some bytes) → IsTrue (is_answer end.status) → end.status ≡ status → GrewBy before.written end.output now.written
+    → files ≡ files_with told end.file → HandsOut found cert notes → HasCarried road road_name cert_name new_name cert notes status told files before now
+carried_bytes road road_name cert_name new_name bytes None end status told files before now cert notes h given answer is whole file out =
+    absurd (no_answer end (said CertRefused (cert_refused_line h.rule h.number)) h.end_is refl answer)
+carried_bytes road road_name cert_name new_name bytes (Some (Carried made)) end status told files before now cert notes h given answer is whole file out =
+    has_carried road road_name cert_name new_name bytes made end status told files before now cert notes h given is whole file out
+carried_bytes road road_name cert_name new_name bytes _ end status told files before now cert notes h given answer is whole file out = absurd h
+
+carried_by : (road : Road) (road_name cert_name new_name : List ℕ) (given : Option (List ℕ)) (found : Option Product) (end : End) (status : Status) (told files : Option Files) (before now : Output) (cert : Option Cert) (notes : List NodeNote)
+    → Carries road new_name given found end → IsGiven told cert_name cert_limit given → IsTrue (is_answer end.status) → end.status ≡ status → GrewBy before.written end.output now.written
+    → files ≡ files_with told end.file → HandsOut found cert notes → HasCarried road road_name cert_name new_name cert notes status told files before now
+carried_by road road_name cert_name new_name None found end status told files before now cert notes h given answer is whole file out = absurd (no_answer end missing_end h.1 refl answer)
+carried_by road road_name cert_name new_name (Some bytes) found end status told files before now cert notes h given answer is whole file out =
+    carried_bytes road road_name cert_name new_name bytes found end status told files before now cert notes h given answer is whole file out
+
+carry_kept : (all : Files) (words : List (List ℕ)) (status : Status) (cert : Option Cert) (notes : List NodeNote) (files : Option Files) (before now : Output) (road_name cert_name new_name : List ℕ) (road : Road)
+    → IsAnswered (Some all) words status cert notes files before now → command_of words ≡ Some (on_road (record { verb = Carry new_name; road = road_name; other = cert_name }))
+    → IsRoadOf (Some all) road_name (Ok road) → IsTrue (is_answer status) → HasCarried road road_name cert_name new_name cert notes status (Some all) files before now
+carry_kept all words status cert notes files before now road_name cert_name new_name road a form r answer =
+    let due = due_of_words (Some all) words (on_road (record { verb = Carry new_name; road = road_name; other = cert_name })) a.found a.end form a.due in
+    carried_by road road_name cert_name new_name due.given.other a.found a.end status (Some all) files before now cert notes
+    (carries_road all road_name cert_name new_name road a.found a.end r due) due.are_given.other
+    (subst (λ (s : Status). IsTrue (is_answer s)) (sym a.status_is) answer) a.status_is a.whole a.file_is a.hands_out
+
+pub keeps_carry : (told : Option Files) (words : List (List ℕ)) (status : Status) (cert : Option Cert) (notes : List NodeNote) (files : Option Files) (before now : Output)
+    → (IsTrue (is_answer status) → IsAnswered told words status cert notes files before now) → KeepsCarry told words status cert notes files before now
+keeps_carry told words status cert notes files before now answers all road_name cert_name new_name road is form road_of answer =
+    subst (λ (t : Option Files). HasCarried road road_name cert_name new_name cert notes status t files before now) (sym is)
+    (carry_kept all words status cert notes files before now road_name cert_name new_name road
+    (subst (λ (t : Option Files). IsAnswered t words status cert notes files before now) is (answers answer)) form
+    (subst (λ (t : Option Files). IsRoadOf t road_name (Ok road)) is road_of) answer)
+
+-- a bound that can be carried is
+carries_answer : (road : Road) (name bytes : List ℕ) (given : Cert) (found : Option Product) (end : End) → CarriesBytes road name bytes found end → IsCarriableCert road bytes given → IsTrue (is_answer end.status)
+carries_answer road name bytes given None end h carriable = absurd (h.none (certificate_of given) (carriable_text road bytes given carriable))
+carries_answer road name bytes given (Some (Carried cert)) end h carriable = ap (λ (e : End). is_answer e.status) h.end_is
+carries_answer road name bytes given _ end h carriable = absurd h
+
+carry_answer : (files : Files) (words : List (List ℕ)) (command : Command) (found : Option Product) (end : End) (road_name cert_name new_name bytes : List ℕ) (road : Road) (given : Cert)
+    → command_of words ≡ Some command → IsDue (Some files) command found end → command_of words ≡ Some (on_road (record { verb = Carry new_name; road = road_name; other = cert_name }))
+    → IsRoadOf (Some files) road_name (Ok road) → IsGiven (Some files) cert_name cert_limit (Some bytes) → IsCarriableCert road bytes given → IsTrue (is_answer end.status)
+carry_answer files words command found end road_name cert_name new_name bytes road given form due asks r there carriable =
+    let is = same_some (command_of words) command (on_road (record { verb = Carry new_name; road = road_name; other = cert_name })) form asks in
+    let own = subst (λ (c : Command). IsDue (Some files) c found end) is due in
+    let h = carries_road files road_name cert_name new_name road found end r own in
+    let same : own.given.other ≡ Some bytes = own.are_given.other ∙ sym there in
+    carries_answer road new_name bytes given found end (subst (λ (o : Option (List ℕ)). Carries road new_name o found end) same h) carriable
+
+pub carry_answers : (told files : Option Files) (words : List (List ℕ)) (command : Command) (r n w v : ℕ) (before now : Output) (s : Status) (cert : Option Cert) (notes : List NodeNote)
+    → command_of words ≡ Some command → Outcome told command files r n w v before now s cert notes → AnswersCarry told words r n w v before now s
+carry_answers told files words command r n w v before now s cert notes form (inl c) all road_name cert_name new_name bytes road given is asks road_of there carriable =
+    let due = due_of told command r n c.found c.end c.made in
+    let answer = carry_answer all words command c.found c.end road_name cert_name new_name bytes road given form (subst (λ (t : Option Files). IsDue t command c.found c.end) is due) asks
+    (subst (λ (t : Option Files). IsRoadOf t road_name (Ok road)) is road_of) (subst (λ (t : Option Files). IsGiven t cert_name cert_limit (Some bytes)) is there) carriable in
+    answers_or_lost c.end s (HasFailed w v before now) (IsGivenUp r n s) answer (finished told files c.found c.end w v before now s (end_kind told command c.found c.end due) c.finishes)
+carry_answers told files words command r n w v before now s cert notes form (inr g) all road_name cert_name new_name bytes road given is asks road_of there carriable = inr (inr g.given_up)
+
 not_both : {A : Type 0} {x : A} (o : Option A) → o ≡ None → o ≡ Some x → ⊥
 not_both o p q = cc
 
@@ -383,3 +493,10 @@ usage_solve told words status cert notes files before now none all road_name cer
 pub usage_trial : (told : Option Files) (words : List (List ℕ)) (status : Status) (cert : Option Cert) (notes : List NodeNote) (files : Option Files) (before now : Output)
     → command_of words ≡ None → KeepsTrial told words status cert notes files before now
 usage_trial told words status cert notes files before now none number form answer = absurd (not_both (command_of words) none form)
+
+pub usage_carry : (told : Option Files) (words : List (List ℕ)) (status : Status) (cert : Option Cert) (notes : List NodeNote) (files : Option Files) (before now : Output)
+    → command_of words ≡ None → KeepsCarry told words status cert notes files before now
+usage_carry told words status cert notes files before now none all road_name cert_name new_name road is form road_of answer = absurd (not_both (command_of words) none form)
+
+pub usage_carry_answers : (told : Option Files) (words : List (List ℕ)) (r n w v : ℕ) (before now : Output) (s : Status) → command_of words ≡ None → AnswersCarry told words r n w v before now s
+usage_carry_answers told words r n w v before now s none files road_name cert_name new_name bytes road given is form road_of there carriable = absurd (not_both (command_of words) none form)

@@ -1,3 +1,4 @@
+mod CarryLemmas
 mod CommandLemmas
 mod FormsLemmas
 mod SolvingLemmas

@@ -1,12 +1,13 @@
--- What a run of `solve ROAD CERT` says, and a run of `trial NUMBER`: the plan, the bound and the certificate mean what they say.
+-- What a run of `solve ROAD CERT` says, a run of `trial NUMBER` and one of `carry ROAD CERT NEW`: the plan, the bound and the certificate mean what they say.
 --     IsRoadOf told name made      the road of the named file and of its table, or the end that is due where there is none
 --     IsOpenNote, ShowsOpenLeaf, ShowsWhy      a leaf was left open below the cost, and its own note, which is one of an open leaf, is shown
 --     SumsTo road plan cost      the cost is the sum of the items of the report's cost table
 --     IsSolved      each sentence of the product's promise, for one certificate
 --     HoldsCert, PutsOut      what stands in the file of the certificate and in the output
 --     HasSolved, HasTried      both together, for the certificate that is handed out
---     KeepsSolve, KeepsTrial      the promise for words, files and output
-use Rattle.std.specs.Prelude.{◌≡◌, ◌++◌, ℕ, ◌⊎◌, IsTrue, Option, Some, None, IfSome, Result, Ok, List, ◌+ℤ◌}
+--     HasCarried      the same for the certificate that was carried
+--     KeepsSolve, KeepsTrial, KeepsCarry      the promise for words, files and output
+use Rattle.std.specs.Prelude.{◌≡◌, ◌++◌, ℕ, ◌⊎◌, IsTrue, Option, Some, None, IfSome, Result, Ok, List, [], length, ◌≤◌, ◌+ℤ◌}
 use Rattle.std.specs.FinMap.{get}
 use Rattle.std.specs.List.{All}
 use Rattle.outside.specs.Files.{Files, with_file}
@@ -25,8 +26,10 @@ use Rattle.cert_tree.specs.Trees.{box_tree_of, node_count}
 use Rattle.cert_tree.specs.Soundness.{box_value}
 use Rattle.cert_text.specs.CertText.{Certificate, IsCertText, cert_text}
 use Rattle.cert_text.specs.Certs.{certificate_of}
-use Rattle.cert_text.specs.Validity.{IsValidText, IsUnbeaten}
+use Rattle.cert_text.specs.Validity.{IsValidText, IsUnbeaten, longest_text}
 use Rattle.cert_text.specs.declared.cert.Cert.{Cert}
+use Rattle.cert_checker.specs.Carriable.{IsCarriableCert}
+use Rattle.carried_bounds.specs.Carried.{IsCarried}
 use Rattle.report.specs.Lines.{Line, AreLines}
 use Rattle.report.specs.Reports.{costs_table}
 use Rattle.cert_report.specs.CertReport.{cert_lines}
@@ -36,14 +39,13 @@ use Rattle.branch_bound.specs.declared.notes.NodeNote.TheVariants.{Nodes, Pivots
 use Rattle.branch_bound.specs.Endings.{HasPlanAt, IsBelowCost, IsNoStop, HasNodesForAll}
 use Rattle.branch_bound.specs.Noted.{Noted, low_with, dead_with, fork_with, tree_of, notes_of, IsShownLow}
 use Rattle.branch_bound.specs.Searched.{IsSearched}
-use Rattle.roadopt_program.specs.declared.forms.Verb.TheVariants.{Check, Replay, Solve}
 use Rattle.roadopt_program.specs.declared.status.Status.{Status}
 use Rattle.roadopt_program.specs.declared.status.Status.TheVariants.{Done}
 use Rattle.roadopt_program.specs.Due.{road_due, IsDueOnRoad}
 use Rattle.roadopt_program.specs.Ends.{End, Output, said}
-use Rattle.roadopt_program.specs.CommandWords.{on_road, trial, command_of}
-use Rattle.roadopt_program.specs.Inputs.{road_limit, IsGiven, IsGivenIfNamed, table_named}
-use Rattle.roadopt_program.specs.Printed.{valid_line, trial_line}
+use Rattle.roadopt_program.specs.CommandWords.{Check, Replay, Solve, Carry, on_road, trial, command_of}
+use Rattle.roadopt_program.specs.Inputs.{road_limit, cert_limit, IsGiven, IsGivenIfNamed, table_named}
+use Rattle.roadopt_program.specs.Printed.{valid_line, carried_line, trial_line}
 use Rattle.roadopt_program.specs.Solving.{HasStatus}
 use Rattle.roadopt_program.specs.Statuses.{is_answer}
 
@@ -164,3 +166,36 @@ pub record HasTried (number : ℕ) (answer : Option Cert) (notes : List NodeNote
 abbrev pub KeepsTrial : Option Files → List (List ℕ) → Status → Option Cert → List NodeNote → Option Files → Output → Output → Type 0
 KeepsTrial told words status cert notes files before now =
     (number : ℕ) → command_of words ≡ Some (trial number) → IsTrue (is_answer status) → HasTried number cert notes status told files before now
+
+-- ---- `carry ROAD CERT NEW`
+
+-- the promise of `carry`
+pub record HasCarried (road : Road) (road_name cert_name new_name : List ℕ) (answer : Option Cert) (notes : List NodeNote) (status : Status) (told files : Option Files) (before now : Output) : Type 0 where
+  pub cert : Cert
+  pub handed_out : answer ≡ Some cert
+  pub no_notes : notes ≡ []
+  pub done : status ≡ Done
+  -- the file of the certificate holds the text of one whose bound can be carried, as far as it is read
+  pub bytes : List ℕ
+  pub is_given : IsGiven told cert_name cert_limit (Some bytes)
+  pub given : Cert
+  pub carriable : IsCarriableCert road bytes given
+  -- its plan and its splits stand in the certificate that is handed out, each low leaf proves at least as much, and the bound is what they prove
+  pub carried : IsCarried road (certificate_of given) (certificate_of cert)
+  -- no admissible plan, over any denominator, costs less than the bound that it states; without one none is admissible
+  pub bound : IsUnbeaten road cert.bound
+  -- the new file holds the certificate's text, and every other file is as before
+  pub file : files ≡ with_file told new_name (cert_text road (certificate_of cert))
+  pub printed : GrewBy before.written (carried_line cert.cost cert.bound) now.written
+  -- where the text isn't too long `check` of that file is to accept it
+  pub accepted : length (cert_text road (certificate_of cert)) ≤ longest_text
+      → (later : Files) → HoldsCert later road_name new_name road (cert_text road (certificate_of cert))
+      → IsDueOnRoad (Some later) (record { verb = Check; road = road_name; other = new_name }) None (said Done (valid_line cert.cost cert.bound))
+
+-- for told files that give an accepted road, an answer of `carry` keeps the promise
+abbrev pub KeepsCarry : Option Files → List (List ℕ) → Status → Option Cert → List NodeNote → Option Files → Output → Output → Type 0
+KeepsCarry told words status cert notes files before now =
+    (all : Files) (road_name cert_name new_name : List ℕ) (road : Road) → told ≡ Some all
+    → command_of words ≡ Some (on_road (record { verb = Carry new_name; road = road_name; other = cert_name }))
+    → IsRoadOf told road_name (Ok road) → IsTrue (is_answer status)
+    → HasCarried road road_name cert_name new_name cert notes status told files before now

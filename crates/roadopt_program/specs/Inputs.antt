@@ -11,9 +11,7 @@ use Rattle.road_types.specs.Limits.{longest_file}
 use Rattle.road_types.specs.declared.fault.Fault.{Fault}
 use Rattle.road_file.specs.RoadOf.{table_name_of}
 use Rattle.cert_text.specs.Validity.{longest_text}
-use Rattle.roadopt_program.specs.declared.forms.Verb.{Verb}
-use Rattle.roadopt_program.specs.declared.forms.Verb.TheVariants.{Judge, Check, Replay, Solve}
-use Rattle.roadopt_program.specs.CommandWords.{RoadCommand}
+use Rattle.roadopt_program.specs.CommandWords.{Verb, Judge, Check, Replay, Solve, Mass, Carry, RoadCommand}
 
 -- one more byte than a road file may have
 unfoldable pub road_limit : ℕ
@@ -29,6 +27,8 @@ other_limit Judge = Some road_limit
 other_limit Check = Some cert_limit
 other_limit Replay = Some cert_limit
 other_limit Solve = None
+other_limit Mass = Some cert_limit
+other_limit (Carry new) = Some cert_limit
 
 -- where files are told: the first `most` bytes of the named one, or none where there is no such file
 abbrev pub IsGiven : Option Files → List ℕ → ℕ → Option (List ℕ) → Type 0

@@ -4,6 +4,7 @@ pub mod Statuses
 pub mod Ends
 pub mod Inputs
 pub mod Judging
+pub mod Carrying
 pub mod CertChecking
 pub mod Replaying
 pub mod Solving

@@ -1,8 +1,9 @@
 -- The lines that the program prints, each with its last byte 10.
 --     fault_name, rule_name      the names of faults and rules
 --     cert_rule_name      the names of the rules of certificates
---     usage_line, road_refused_line, plan_refused_line, broken_line, admissible_line, cert_refused_line, valid_line, trial_line      the lines
-use Rattle.std.specs.Prelude.{ℕ, List, ◌++◌, codes, Option, Some, None}
+--     listed rows, usage_line      the forms of words
+--     road_refused_line, plan_refused_line, broken_line, admissible_line, cert_refused_line, valid_line, carried_line, trial_line      the lines
+use Rattle.std.specs.Prelude.{ℕ, List, [], ◌∷◌, ◌++◌, codes, Option, Some, None}
 use Rattle.std.specs.Fmt.{decimal}
 use Rattle.road_types.specs.declared.fault.Fault.{Fault}
 use Rattle.road_types.specs.declared.road.Road.{Road}
@@ -13,6 +14,7 @@ use Rattle.plan_rules.specs.declared.verdict.Rule.TheVariants.{P1, P2, P3, P4, P
 use Rattle.numbers.specs.Fractions.{Fraction, fraction_text}
 use Rattle.roadopt_program.specs.declared.status.Status.{Status}
 use Rattle.roadopt_program.specs.declared.status.Status.TheVariants.{Done}
+use Rattle.roadopt_program.specs.CommandWords.{Row, forms}
 use Rattle.cert_checker.specs.declared.refusal.CertRule.{CertRule}
 use Rattle.cert_checker.specs.declared.refusal.CertRule.TheVariants.{C1, C2, C3, C4, C5, C6, C7, C8, C9}
 
@@ -49,8 +51,15 @@ rule_name P7 = codes "P7"
 rule_name P8 = codes "P8"
 rule_name P9 = codes "P9"
 
+-- the forms of these rows, each with its word and its names
+abbrev pub listed : List Row → List ℕ
+listed [] = codes "\n"
+listed (row ∷ []) = row.word ++ (codes " " ++ (row.names ++ codes "\n"))
+listed (row ∷ next ∷ rows) = row.word ++ (codes " " ++ (row.names ++ (codes ", " ++ listed (next ∷ rows))))
+
+-- all forms of words
 abbrev pub usage_line : List ℕ
-usage_line = codes "usage: judge ROAD PLAN, check ROAD CERT, replay ROAD CERT, solve ROAD CERT, trial NUMBER\n"
+usage_line = codes "usage: " ++ listed forms
 
 -- `road refused: Fk`
 unfoldable pub road_refused_line : Fault → List ℕ
@@ -94,6 +103,11 @@ cost_text (Some cost) = fraction_text cost
 unfoldable pub valid_line : Option Fraction → Option Fraction → List ℕ
 valid_line cost None = codes "valid no plan\n"
 valid_line cost (Some bound) = codes "valid cost " ++ (cost_text cost ++ (codes " bound " ++ (fraction_text bound ++ codes "\n")))
+
+-- `carried no plan` where no bound stands, else `carried cost n/d bound n/d`, with `none` where no plan stands
+unfoldable pub carried_line : Option Fraction → Option Fraction → List ℕ
+carried_line cost None = codes "carried no plan\n"
+carried_line cost (Some bound) = codes "carried cost " ++ (cost_text cost ++ (codes " bound " ++ (fraction_text bound ++ codes "\n")))
 
 -- the gap between cost and bound, by the status of the run
 abbrev pub gap_word : Status → List ℕ

@@ -11,6 +11,8 @@ use Rattle.report.specs.Lines.{AreLines}
 use Rattle.cert_report.specs.CertReport.{cert_lines}
 use Rattle.branch_bound.specs.Found.{IsFound}
 use Rattle.branch_bound.specs.declared.finding.Found.{Found}
+use Rattle.roadopt_program.specs.declared.ending.Product.{Product}
+use Rattle.roadopt_program.specs.declared.ending.Product.TheVariants.{Searched}
 use Rattle.roadopt_program.specs.declared.status.Status.{Status}
 use Rattle.roadopt_program.specs.declared.status.Status.TheVariants.{Done, Gap}
 use Rattle.roadopt_program.specs.Ends.{End}
@@ -30,6 +32,6 @@ pub record SolvesBy (road : Road) (name : List ℕ) (found : Found) (end : End) 
   pub file : end.file ≡ Some (record { name = name; bytes = cert_text road (certificate_of found.cert) })
 
 -- the end of a search of a road without a fault, as every accepted road is
-abbrev pub Solves : Road → List ℕ → Option Found → End → Type 0
-Solves road name None end = ⊥
-Solves road name (Some found) end = SolvesBy road name found end
+abbrev pub Solves : Road → List ℕ → Option Product → End → Type 0
+Solves road name (Some (Searched found)) end = SolvesBy road name found end
+Solves road name _ end = ⊥

@@ -4,6 +4,8 @@ use Rattle.road_types.specs.Faults.{road_fault}
 use Rattle.trial_roads.specs.TrialRoads.{trial_road}
 use Rattle.branch_bound.specs.Found.{IsFound}
 use Rattle.branch_bound.specs.declared.finding.Found.{Found}
+use Rattle.roadopt_program.specs.declared.ending.Product.{Product}
+use Rattle.roadopt_program.specs.declared.ending.Product.TheVariants.{Searched}
 use Rattle.roadopt_program.specs.Ends.{End}
 use Rattle.roadopt_program.specs.Printed.{trial_line}
 use Rattle.roadopt_program.specs.Solving.{HasStatus}
@@ -16,6 +18,6 @@ pub record TriesBy (number : ℕ) (found : Found) (end : End) : Type 0 where
   pub line : end.output ≡ trial_line number (trial_road number) found.count found.cert.cost found.cert.bound end.status
   pub no_file : end.file ≡ None
 
-abbrev pub Tries : ℕ → Option Found → End → Type 0
-Tries number None end = ⊥
-Tries number (Some found) end = TriesBy number found end
+abbrev pub Tries : ℕ → Option Product → End → Type 0
+Tries number (Some (Searched found)) end = TriesBy number found end
+Tries number _ end = ⊥

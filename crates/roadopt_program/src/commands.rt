@@ -1,37 +1,42 @@
 // What follows the words: the end of each command.
-ghost use Rattle.std.specs.Prelude.{◌≡◌, ◌≢◌, ◌≤◌, IfOk, IsErrOf, None};
+ghost use Rattle.std.specs.Prelude.{◌≡◌, ◌≢◌, ◌≤◌, ℕ, List, IfOk, IsErrOf, Some, None};
 ghost use Rattle.outside.specs.Faults.{HasRisen};
 ghost use Rattle.road_types.specs.Faults.{road_fault};
+ghost use Rattle.roadopt_program.specs.Due.{FollowsRoad};
 ghost use Rattle.roadopt_program.specs.Inputs.{other_limit};
-ghost use Rattle.roadopt_program.specs.inside.Outcomes.{IsMade, IsMadeOnRoad, OfBytes, end_of};
+ghost use Rattle.roadopt_program.specs.inside.Called.{verb_called, road_called};
+ghost use Rattle.roadopt_program.specs.inside.Outcomes.{IsMade, IsMadeOnRoad, made_end};
 
+use crate::carrying::carry_bytes;
 use crate::cert_checking::check_bytes;
-use crate::ending::{Ending, Made, missing, unsearched};
+use crate::ending::{Made, missing, unsearched};
 use crate::forms::{RoadCommand, Verb};
 use crate::inputs::{Lost, read_file};
 use crate::judging::judge_bytes;
-use crate::replaying::replay_bytes;
+use crate::replaying::{mass_bytes, replay_bytes};
 use crate::roads::find_road;
 use crate::solving::solve_road;
 use outside::Store;
 use road_types::Road;
 use std::alloc::{AllocError, Global};
 
-/// The end of a command for the bytes of its further file.
-fn end_over_bytes(
+/// What a command makes of the bytes of its further file.
+fn made_over_bytes(
     alloc: Global,
-    verb: Verb,
+    verb: &Verb<'_>,
     road: &Road,
     bytes: &[u8],
-) -> Result<Ending, AllocError>
+) -> Result<Made, AllocError>
     requires accepted { road_fault road.now ≡ None }
-    requires reads { other_limit verb ≢ None }
-    ensures { IfOk result (λ e. OfBytes verb road.now bytes.now (end_of e)) }
+    requires reads { other_limit (verb_called verb.now) ≢ None }
+    ensures { IfOk result (λ made. (name : List ℕ) → FollowsRoad (verb_called verb.now) road.now name (Some bytes.now) made.found (made_end name made)) }
 {
     match verb {
-        Verb::Judge => judge_bytes(alloc, road, bytes),
-        Verb::Check => check_bytes(alloc, road, bytes),
-        Verb::Replay => replay_bytes(alloc, road, bytes),
+        Verb::Judge => Ok(unsearched(judge_bytes(alloc, road, bytes)?)),
+        Verb::Check => Ok(unsearched(check_bytes(alloc, road, bytes)?)),
+        Verb::Replay => Ok(unsearched(replay_bytes(alloc, road, bytes)?)),
+        Verb::Mass => Ok(unsearched(mass_bytes(alloc, road, bytes)?)),
+        Verb::Carry { .. } => carry_bytes(alloc, road, bytes),
         Verb::Solve => unreachable!(),
     }
 }
@@ -39,13 +44,13 @@ fn end_over_bytes(
 /// The end of a command on an accepted road: of a search, or for its further file.
 fn end_on_road<S: Store>(
     alloc: Global,
-    command: RoadCommand<'_>,
+    command: &RoadCommand<'_>,
     road: &Road,
     store: &mut S,
 ) -> Result<Made, Lost>
     requires { road_fault road.now ≡ None }
     ensures made { IfOk result (λ made. IsMadeOnRoad (S.files store.old)
-        (record { verb = command.entry.verb; road = command.entry.road.now; other = command.entry.other.now }) road.now made) }
+        (road_called command.now) road.now made) }
     ensures failed { IsErrOf result Lost.Failed → HasRisen (S.read_faults store.old) (S.read_faults store.new) }
     ensures files { S.files store.new ≡ S.files store.old }
     ensures writes { S.write_faults store.new ≡ S.write_faults store.old }
@@ -55,10 +60,7 @@ fn end_on_road<S: Store>(
         return Ok(solve_road(alloc, road)?);
     };
     match read_file(alloc, command.other, limit, store)? {
-        Some(bytes) => {
-            let ending = end_over_bytes(alloc, command.verb, road, bytes.as_slice())?;
-            Ok(unsearched(ending))
-        }
+        Some(bytes) => Ok(made_over_bytes(alloc, &command.verb, road, bytes.as_slice())?),
         None => Ok(unsearched(missing(alloc))),
     }
 }
@@ -67,11 +69,11 @@ fn end_on_road<S: Store>(
 #[tactic(auto, using(crate::proofs::CommandLemmas::made_early))]
 pub(crate) fn end_of_command<S: Store>(
     alloc: Global,
-    command: RoadCommand<'_>,
+    command: &RoadCommand<'_>,
     store: &mut S,
 ) -> Result<Made, Lost>
     ensures made { IfOk result (λ made. IsMade (S.files store.old)
-        (record { verb = command.entry.verb; road = command.entry.road.now; other = command.entry.other.now })
+        (road_called command.now)
         (S.read_faults store.old) (S.read_faults store.new) made) }
     ensures failed { IsErrOf result Lost.Failed → HasRisen (S.read_faults store.old) (S.read_faults store.new) }
     ensures files { S.files store.new ≡ S.files store.old }

@@ -7,6 +7,7 @@ ghost use Rattle.roadopt_program.specs.inside.Outcomes.{Prints, Finishes, end_of
 
 use crate::Status;
 use branch_bound::Found;
+use cert_text::Cert;
 use outside::{Sink, Store};
 use std::alloc::Global;
 
@@ -24,8 +25,17 @@ pub(crate) struct Made {
     pub(crate) ending: Ending,
     /// The bytes of the file that is written, if any.
     pub(crate) text: Option<Vec<u8>>,
-    /// What the search found, if there was one.
-    pub(crate) found: Option<Found>,
+    /// What is handed out, if anything.
+    pub(crate) found: Option<Product>,
+}
+
+/// What a command found that is handed out at the end of a run.
+#[derive(Drop)]
+pub(crate) enum Product {
+    /// A search found this.
+    Searched { found: Found },
+    /// This certificate was carried to the costs of the road.
+    Carried { cert: Cert },
 }
 
 /// An end without a search, which writes no file.

@@ -3,6 +3,7 @@ ghost use Rattle.std.specs.Prelude.{◌≡◌, ◌+◌, ◌^◌, ◌≤◌, IfOk
 ghost use Rattle.std.specs.Option.{option_map};
 ghost use Rattle.outside.specs.Faults.{HasRisen};
 ghost use Rattle.roadopt_program.specs.Inputs.{road_limit, cert_limit, other_limit, IsGiven};
+ghost use Rattle.roadopt_program.specs.inside.Called.{verb_called};
 ghost use Rattle.roadopt_program.specs.declared.inputs.Lost.TheVariants.{NoMemory};
 
 use crate::forms::Verb;
@@ -46,15 +47,15 @@ pub(crate) fn cert_limit() -> usize
     LONGEST_TEXT + 1
 }
 
-impl Verb {
+impl Verb<'_> {
     /// How many bytes of the command's further file are read at the most; `None` where none is read.
-    pub(crate) fn other_limit(self) -> Option<usize>
-        ensures value { result ≡ other_limit self }
+    pub(crate) fn other_limit(&self) -> Option<usize>
+        ensures value { result ≡ other_limit (verb_called self.now) }
         ensures within { IfSome result (λ most. most ≤ 2 ^ 26 + 1) }
     {
         match self {
             Verb::Judge => Some(road_limit()),
-            Verb::Check | Verb::Replay => Some(cert_limit()),
+            Verb::Check | Verb::Replay | Verb::Mass | Verb::Carry { .. } => Some(cert_limit()),
             Verb::Solve => None,
         }
     }

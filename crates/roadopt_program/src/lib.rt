@@ -1,7 +1,8 @@
 //! The program's commands over any store and sink: `run` takes the words of the command line and answers how it ended.
-//! The definitions stand in specs/: Forms (words), Due (what is due, in the order of the call), Runs (what stands behind each end).
+//! The definitions stand in specs/: CommandWords (words), Due (what is due, in the order of the call), Runs (what stands behind each end).
 #![tactic(auto)]
 
+mod carrying;
 mod cert_checking;
 mod commands;
 mod ending;

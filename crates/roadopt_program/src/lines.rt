@@ -3,7 +3,7 @@ ghost use Rattle.std.specs.Prelude.{◌≡◌, ◌≢◌, ◌<◌, ◌^◌, ◌+
 ghost use Rattle.numbers.specs.Fractions.{fraction_text};
 ghost use Rattle.std.specs.String.{string_bytes};
 ghost use Rattle.roadopt_program.specs.Judging.{PrintsFraction};
-ghost use Rattle.roadopt_program.specs.Printed.{fault_name, rule_name, road_refused_line, plan_refused_line, broken_line, admissible_line, cert_rule_name, cert_refused_line, cost_text, valid_line, gap_word, found_text, trial_line};
+ghost use Rattle.roadopt_program.specs.Printed.{fault_name, rule_name, road_refused_line, plan_refused_line, broken_line, admissible_line, cert_rule_name, cert_refused_line, cost_text, valid_line, carried_line, gap_word, found_text, trial_line};
 
 use crate::Status;
 use branch_bound::Found;
@@ -183,6 +183,37 @@ fn gap_word(status: Status) -> &'static str
         Status::Done => "none",
         _ => "open",
     }
+}
+
+/// The line for a certificate that was carried.
+#[tactic(auto, unfolding(crate::specs::Printed::carried_line))]
+pub(crate) fn carried_line(
+    alloc: Global,
+    cost: &Option<Frac>,
+    bound: &Option<Frac>,
+) -> Result<String, AllocError>
+    ensures { IfOk result (λ line. string_bytes line ≡ carried_line cost.now bound.now) }
+{
+    match bound {
+        Some(bound) => carried_bound_line(alloc, cost, bound),
+        None => format!(in alloc; "carried no plan\n"),
+    }
+}
+
+/// The same where a bound stands.
+fn carried_bound_line(
+    alloc: Global,
+    cost: &Option<Frac>,
+    bound: &Frac,
+) -> Result<String, AllocError>
+    ensures { IfOk result (λ line. string_bytes line
+        ≡ codes "carried cost " ++ (cost_text cost.now ++ (codes " bound " ++ (fraction_text bound.now ++ codes "\n")))) }
+{
+    let cost = cost_text(alloc, cost)?;
+    let cost = cost.as_str();
+    let bound = bound.text(alloc)?;
+    let bound = bound.as_str();
+    format!(in alloc; "carried cost {cost} bound {bound}\n")
 }
 
 /// What a search found beside a bound: cost, bound and gap.

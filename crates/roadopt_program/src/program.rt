@@ -1,24 +1,23 @@
 // The top call.
 ghost use Rattle.std.specs.Prelude.{◌≡◌, ◌≤◌, ◌⊎◌, ◌↔◌, false, ℕ, [], Some, None, Option, IsTrue, map};
-ghost use Rattle.std.specs.Option.{option_map};
 ghost use Rattle.std.specs.String.{string_bytes};
 ghost use Rattle.outside.specs.Faults.{HasRisen};
 ghost use Rattle.roadopt_program.specs.Ends.{Says};
 ghost use Rattle.roadopt_program.specs.CommandWords.{command_of, on_road, trial};
-ghost use Rattle.roadopt_program.specs.Headline.{KeepsSolve, KeepsTrial};
+ghost use Rattle.roadopt_program.specs.Headline.{KeepsSolve, KeepsTrial, KeepsCarry};
 ghost use Rattle.roadopt_program.specs.Printed.{usage_line};
-ghost use Rattle.roadopt_program.specs.Runs.{IsAnswered, IsRefused, IsMissing, IsLost, EndsAsDue, AnswersSolve, AnswersTrial, HasOneEnd, notes_found};
+ghost use Rattle.roadopt_program.specs.Runs.{IsAnswered, IsRefused, IsMissing, IsLost, EndsAsDue, AnswersSolve, AnswersCarry, AnswersTrial, HasOneEnd, cert_found, notes_found};
 ghost use Rattle.roadopt_program.specs.Statuses.{is_answer, may_hand_out, is_refusal, is_silent};
-ghost use Rattle.roadopt_program.specs.inside.Called.{called, IsCallable};
+ghost use Rattle.roadopt_program.specs.inside.Called.{called, road_called, IsCallable};
 ghost use Rattle.roadopt_program.specs.inside.Outcomes.{Outcome, TrialOutcome, TriesOnly};
 
 use crate::Status;
 use crate::commands::end_of_command;
-use crate::ending::{finish, print, say};
+use crate::ending::{Product, finish, print, say};
 use crate::forms::{Command, RoadCommand, command_of};
 use crate::inputs::Lost;
 use crate::trying::try_number;
-use branch_bound::{Found, NodeNote};
+use branch_bound::NodeNote;
 use cert_text::Cert;
 use outside::{Sink, Store};
 use road_types::Listed;
@@ -26,26 +25,28 @@ use std::alloc::{AllocError, Global};
 
 /// What is printed where the words aren't one of the forms.
 const USAGE: &str =
-    "usage: judge ROAD PLAN, check ROAD CERT, replay ROAD CERT, solve ROAD CERT, trial NUMBER\n";
+    "usage: judge ROAD PLAN, check ROAD CERT, replay ROAD CERT, solve ROAD CERT, trial NUMBER, carry ROAD CERT NEW, mass ROAD CERT\n";
 
 /// How a run ended, and what its search found.
 #[derive(Debug, Drop)]
 pub struct Answer {
     /// The end, whose code is the exit status.
     pub status: Status,
-    /// The certificate of a search, at `Done`, `Gap` and `WriteFault` of `solve` and `trial`.
+    /// The certificate of a search, at `Done`, `Gap` and `WriteFault` of `solve` and `trial`, or the one that was carried, at `Done` and
+    /// `WriteFault` of `carry`.
     pub cert: Option<Cert>,
-    /// A note for each node of its tree, in preorder; without a certificate there are none.
+    /// A note for each node of a search's tree, in preorder; without a search there are none.
     pub notes: Listed<NodeNote>,
 }
 
 /// Runs the program over a store and a sink; `words` are those of the command line, without the program's name.
 ///
-/// `Usage` where they aren't `judge ROAD PLAN`, `check ROAD CERT`, `replay ROAD CERT`, `solve ROAD CERT` or `trial NUMBER`. Else the road
-/// file is read, then the section table that it names, then the plan or the certificate, and the line for it or its report is printed; or
-/// the road is searched, the certificate that was found is written to CERT, and its report is printed. The first thing that is wrong on
+/// `Usage` where they aren't `judge ROAD PLAN`, `check ROAD CERT`, `replay ROAD CERT`, `solve ROAD CERT`, `trial NUMBER`, `carry ROAD CERT NEW` or
+/// `mass ROAD CERT`. /// Else the road file is read, then the section table that it names, then the plan or the certificate, and the line for it, its report or its
+/// mass diagram is printed; or the road is searched, the certificate that was found is written to CERT, and its report is printed; or the bound of
+/// the certificate is carried to this road's costs, and the certificate with it is written to NEW. The first thing that is wrong on
 /// this way is the end. `NoMemory` may come at any step before anything is written or printed.
-#[tactic(auto, using(crate::proofs::RunLaws::usage_as_due, crate::proofs::DueLaws::one_end, crate::proofs::HeadlineLaws::usage_solve, crate::proofs::HeadlineLaws::usage_trial, crate::proofs::HeadlineLaws::usage_solve_answers, crate::proofs::HeadlineLaws::usage_trial_answers))]
+#[tactic(auto, using(crate::proofs::RunLaws::usage_as_due, crate::proofs::DueLaws::one_end, crate::proofs::HeadlineLaws::usage_solve, crate::proofs::HeadlineLaws::usage_trial, crate::proofs::HeadlineLaws::usage_solve_answers, crate::proofs::HeadlineLaws::usage_trial_answers, crate::proofs::HeadlineLaws::usage_carry, crate::proofs::HeadlineLaws::usage_carry_answers))]
 pub fn run<S: Store, O: Sink>(alloc: Global, words: &[String], store: &mut S, out: &mut O) -> Answer
     // The words, before anything is read.
     ensures usage { (result.status ≡ Status.Usage) ↔ (command_of (map string_bytes words.now) ≡ None) }
@@ -84,12 +85,21 @@ pub fn run<S: Store, O: Sink>(alloc: Global, words: &[String], store: &mut S, ou
         (record { written = O.written out.old; faults = O.faults out.old })
         (record { written = O.written out.new; faults = O.faults out.new }) }
 
+    // The promise of `carry`: what its answer says of the road is true.
+    ensures carry { KeepsCarry (S.files store.old) (map string_bytes words.now) result.status result.cert result.notes (S.files store.new)
+        (record { written = O.written out.old; faults = O.faults out.old })
+        (record { written = O.written out.new; faults = O.faults out.new }) }
+
     // The other direction: where files are told, one end is due at the most beside what a search found, and the run reaches it, or
     // an answer of a search that is asked for, unless something failed.
     ensures as_due { EndsAsDue (S.files store.old) (map string_bytes words.now) (S.read_faults store.old) (S.read_faults store.new)
         (record { written = O.written out.old; faults = O.faults out.old })
         (record { written = O.written out.new; faults = O.faults out.new }) result.status }
     ensures solve_answers { AnswersSolve (S.files store.old) (map string_bytes words.now)
+        (S.read_faults store.old) (S.read_faults store.new) (S.write_faults store.old) (S.write_faults store.new)
+        (record { written = O.written out.old; faults = O.faults out.old })
+        (record { written = O.written out.new; faults = O.faults out.new }) result.status }
+    ensures carry_answers { AnswersCarry (S.files store.old) (map string_bytes words.now)
         (S.read_faults store.old) (S.read_faults store.new) (S.write_faults store.old) (S.write_faults store.new)
         (record { written = O.written out.old; faults = O.faults out.old })
         (record { written = O.written out.new; faults = O.faults out.new }) result.status }
@@ -107,16 +117,21 @@ pub fn run<S: Store, O: Sink>(alloc: Global, words: &[String], store: &mut S, ou
 }
 
 /// The answer at this status: what was found is handed out.
-fn handed_out(alloc: Global, status: Status, found: Option<Found>) -> Answer
+fn handed_out(alloc: Global, status: Status, found: Option<Product>) -> Answer
     ensures status { result.status ≡ status }
-    ensures cert { result.cert ≡ option_map (λ f. f.cert) found }
+    ensures cert { result.cert ≡ cert_found found }
     ensures notes { result.notes ≡ notes_found found }
 {
     match found {
-        Some(found) => Answer {
+        Some(Product::Searched { found }) => Answer {
             status,
             cert: Some(found.cert),
             notes: found.notes,
+        },
+        Some(Product::Carried { cert }) => Answer {
+            status,
+            cert: Some(cert),
+            notes: Listed::new(Vec::new(alloc)),
         },
         None => Answer {
             status,
@@ -157,7 +172,7 @@ fn carry_out<S: Store, O: Sink>(
     ensures silent { IsTrue (is_silent result.status) → out.new ≡ out.old }
 {
     match command {
-        Command::OnRoad { command } => carry_out_on_road(alloc, command, store, out),
+        Command::OnRoad { command } => carry_out_on_road(alloc, &command, store, out),
         Command::Trial { number } => carry_out_trial(alloc, number, out),
     }
 }
@@ -165,12 +180,12 @@ fn carry_out<S: Store, O: Sink>(
 /// Carries a command over two files out.
 fn carry_out_on_road<S: Store, O: Sink>(
     alloc: Global,
-    command: RoadCommand<'_>,
+    command: &RoadCommand<'_>,
     store: &mut S,
     out: &mut O,
 ) -> Answer
     ensures outcome { Outcome (S.files store.old)
-        (on_road (record { verb = command.entry.verb; road = command.entry.road.now; other = command.entry.other.now })) (S.files store.new)
+        (on_road (road_called command.now)) (S.files store.new)
         (S.read_faults store.old) (S.read_faults store.new) (S.write_faults store.old) (S.write_faults store.new)
         (record { written = O.written out.old; faults = O.faults out.old })
         (record { written = O.written out.new; faults = O.faults out.new }) result.status result.cert result.notes }
@@ -178,7 +193,7 @@ fn carry_out_on_road<S: Store, O: Sink>(
 {
     match end_of_command(alloc, command, store) {
         Ok(made) => {
-            let status = finish(&made, command.other, store, out);
+            let status = finish(&made, command.name_written(), store, out);
             handed_out(alloc, status, made.found)
         }
         Err(lost) => handed_out(alloc, lost_status(lost), None),

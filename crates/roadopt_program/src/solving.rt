@@ -10,7 +10,7 @@ ghost use Rattle.roadopt_program.specs.Solving.{HasStatus, Solves};
 ghost use Rattle.roadopt_program.specs.inside.Outcomes.{made_end};
 
 use crate::Status;
-use crate::ending::{Ending, Made};
+use crate::ending::{Ending, Made, Product};
 use branch_bound::{Found, search};
 use cert_report::report_cert;
 use cert_text::{Cert, write_cert};
@@ -41,7 +41,7 @@ pub(crate) fn status_of(cost: &Option<Frac>, bound: &Option<Frac>) -> Status
 }
 
 /// The text of a certificate.
-fn text_of(alloc: Global, road: &Road, cert: &Cert) -> Result<Vec<u8>, AllocError>
+pub(crate) fn text_of(alloc: Global, road: &Road, cert: &Cert) -> Result<Vec<u8>, AllocError>
     requires accepted { road_fault road.now ≡ None }
     requires spelled { IsSpelledCert road.now cert.now }
     ensures { IfOk result (λ text. text.items ≡ cert_text road.now (certificate_of cert.now)) }
@@ -75,7 +75,7 @@ pub(crate) fn solve_road(alloc: Global, road: &Road) -> Result<Made, AllocError>
 
 /// The end of a search that found this.
 fn solved(found: Found, text: Vec<u8>, report: Vec<u8>) -> Made
-    ensures found { result.found ≡ Some found }
+    ensures found { result.found ≡ Some (Product.Searched found) }
     ensures status { HasStatus result.ending.status found.cert.cost found.cert.bound }
     ensures output { result.ending.output ≡ report }
     ensures text { result.text ≡ Some text }
@@ -86,6 +86,6 @@ fn solved(found: Found, text: Vec<u8>, report: Vec<u8>) -> Made
             output: report,
         },
         text: Some(text),
-        found: Some(found),
+        found: Some(Product::Searched { found }),
     }
 }

@@ -3,7 +3,7 @@ ghost use Rattle.std.specs.Prelude.{◌≤◌, IfOk};
 ghost use Rattle.roadopt_program.specs.Trying.{Tries};
 ghost use Rattle.roadopt_program.specs.inside.Outcomes.{end_of};
 
-use crate::ending::{Ending, Made};
+use crate::ending::{Ending, Made, Product};
 use crate::lines;
 use crate::solving::status_of;
 use branch_bound::search;
@@ -25,6 +25,6 @@ pub(crate) fn try_number(alloc: Global, number: u64) -> Result<Made, AllocError>
             output: line.into_bytes(),
         },
         text: None,
-        found: Some(found),
+        found: Some(Product::Searched { found }),
     })
 }

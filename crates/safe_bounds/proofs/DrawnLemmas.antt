@@ -49,11 +49,12 @@ more_drawn xs ys zs y ts us p q = record {
 int_add_zero : (a : ℤ) → a +ℤ pos 0 ≡ a
 int_add_zero a = omega (arith, ints)
 
-set_here : (xs : List ℤ) (j : ℕ) (v : ℤ) → IsNumber j (length xs) → numbered (pos 0) (set xs (j - 1) v) j ≡ v
+-- the number that was set, and each other one
+pub set_here : (xs : List ℤ) (j : ℕ) (v : ℤ) → IsNumber j (length xs) → numbered (pos 0) (set xs (j - 1) v) j ≡ v
 set_here xs zero v n = absurd (omega arith)
 set_here xs (suc k) v n = let e : suc k - 1 ≡ k = omega arith in rw e (get_or-set_same xs k v (pos 0) (omega arith))
 
-set_elsewhere : (xs : List ℤ) (j i : ℕ) (v : ℤ) → 1 ≤ i → (j ≡ i → ⊥) → numbered (pos 0) (set xs (i - 1) v) j ≡ numbered (pos 0) xs j
+pub set_elsewhere : (xs : List ℤ) (j i : ℕ) (v : ℤ) → 1 ≤ i → (j ≡ i → ⊥) → numbered (pos 0) (set xs (i - 1) v) j ≡ numbered (pos 0) xs j
 set_elsewhere xs zero i v low d = refl
 set_elsewhere xs (suc k) i v low d = get_or-set_other xs (i - 1) k v (pos 0) (λ e. d (omega arith))
 

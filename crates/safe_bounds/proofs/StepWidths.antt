@@ -3,7 +3,7 @@ use Rattle.std.proofs.Common.{◌≡◌, ℕ, ◌+◌, ◌*◌, ◌^◌, ◌≤�
 use Rattle.std.specs.Prelude.{ℤ, pos, ◌+ℤ◌, ◌-ℤ◌, ◌*ℤ◌, FitsSigned, unsigned_abs}
 use Rattle.std.specs.Int.{w64, w128}
 use Rattle.std.proofs.lemmas.Int.{ints, to_z-of_z}
-use Rattle.algebra.proofs.Magnitudes.{unsigned_abs_mul_le, unsigned_abs_add, fits_w128_add, fits_w128_sub, fits_w128_mul}
+use Rattle.algebra.proofs.Magnitudes.{unsigned_abs_mul_le, unsigned_abs_add, unsigned_abs_sub, fits_w128_add, fits_w128_sub, fits_w128_mul}
 use Rattle.programs.specs.Weights.{reach}
 
 word_width : (x : ℤ) → FitsSigned w64 x → unsigned_abs x ≤ 2 ^ 63
@@ -26,6 +26,11 @@ drawn_width k old y x p q f =
 
 pub reduced_fits : (scale cost drawn : ℤ) → unsigned_abs scale ≤ 2 ^ 40 → FitsSigned w64 cost → unsigned_abs drawn ≤ 2 ^ 123 → FitsSigned w128 (scale *ℤ cost -ℤ drawn)
 reduced_fits scale cost drawn p f q = fits_w128_sub (scale *ℤ cost) drawn (2 ^ 103) (2 ^ 123) (product_of_word scale cost p f) q (omega arith)
+
+pub reduced_width : (scale cost drawn difference : ℤ) → unsigned_abs scale ≤ 2 ^ 40 → FitsSigned w64 cost → unsigned_abs drawn ≤ 2 ^ 123 → difference ≡ scale *ℤ cost -ℤ drawn → unsigned_abs difference ≤ 2 ^ 124
+reduced_width scale cost drawn difference p f q e =
+    let b = product_of_word scale cost p f in
+    rw e (omega (arith, unsigned_abs_sub (scale *ℤ cost) drawn))
 
 -- a reduced cost times one of the bounds
 pub share_fits : (r x : ℤ) (b : ℤ × ℤ) → unsigned_abs r * reach b ≤ 2 ^ 126 → unsigned_abs x ≤ reach b → FitsSigned w128 (r *ℤ x)

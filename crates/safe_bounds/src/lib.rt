@@ -8,6 +8,6 @@ mod products;
 mod rows;
 mod scratch;
 
-pub use leaf::leaf_value;
+pub use leaf::{leaf_value, least_share, reduce_costs};
 pub use narrowing::narrow;
 pub use scratch::Scratch;

@@ -17,14 +17,14 @@ use Rattle.cert_tree.proofs.LeafLemmas.{on_rows}
 use Rattle.cert_tree.proofs.Lift.{sound_bounds}
 use Rattle.cert_tree.specs.declared.tree.Tree.{Tree}
 use Rattle.search_trees.specs.RootedTrees.{RootedTree, FitsRoad}
-use Rattle.search_trees.specs.Proving.{AreSigned, HasProvingLeaves}
+use Rattle.cert_tree.specs.Proving.{AreSigned, HasProvingLeaves}
 use Rattle.search_trees.proofs.LeastLemmas.{neither}
 
 are_sound : (road : Road) (box : BoxRange) (mults : List (ℕ × ℤ)) → AreMultipliersBehind (row_count road) 0 mults → AreSigned road box mults → AreSound road box mults
 are_sound road box mults on signed = record { on_rows = on_rows road box (box_program road box) mults refl on; right_signs = signed }
 
 -- a bound of at most each low leaf's is proved
-sound_within : (road : Road) (bound : Fraction) (tree : BoxTree) (box : BoxRange) → SplitsFit road tree box → IsWithinWidths (row_count road) tree
+pub sound_within : (road : Road) (bound : Fraction) (tree : BoxTree) (box : BoxRange) → SplitsFit road tree box → IsWithinWidths (row_count road) tree
     → HasProvingLeaves road tree box → IsAtMostLeaves road bound tree box → IsSound road (Some bound) tree box
 sound_within road bound (low scale mults cause) box s w p h = record { scale_within = w.0; mults_sound = are_sound road box mults w.1 p; bounded = h }
 sound_within road bound (dead mults) box s w p h = record { mults_sound = are_sound road box mults w p.0; above_zero = p.1 }
@@ -32,7 +32,7 @@ sound_within road bound (fork split first second) box s w p h =
     (s.0, sound_within road bound first (first_part box split) s.1 w.0 p.0 h.0, sound_within road bound second (second_part box split) s.2 w.1 p.1 h.1)
 
 -- dead leaves alone prove that there is no plan
-sound_without : (road : Road) (tree : BoxTree) (box : BoxRange) → SplitsFit road tree box → IsWithinWidths (row_count road) tree
+pub sound_without : (road : Road) (tree : BoxTree) (box : BoxRange) → SplitsFit road tree box → IsWithinWidths (row_count road) tree
     → HasProvingLeaves road tree box → has_low tree ≡ false → IsSound road None tree box
 sound_without road (low scale mults cause) box s w p h = absurd (false≢true (sym h))
 sound_without road (dead mults) box s w p h = record { mults_sound = are_sound road box mults w p.0; above_zero = p.1 }

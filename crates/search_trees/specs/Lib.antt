@@ -1,4 +1,3 @@
 pub mod RootedTrees
 pub mod Places
-pub mod Proving
 pub mod inside

@@ -5,10 +5,10 @@ ghost use Rattle.road_types.specs.RoadPrograms.{row_count};
 ghost use Rattle.milp_builder.specs.Boxes.{IsBoxOf};
 ghost use Rattle.best_first.specs.Keys.{IsKey};
 ghost use Rattle.cert_tree.specs.Trees.{box_tree_of, IsWithinWidths};
-ghost use Rattle.cert_tree.specs.Soundness.{Bounds, SplitsFit};
+ghost use Rattle.cert_tree.specs.Soundness.{Bounds, SplitsFit, SoundTreesBound};
 ghost use Rattle.cert_tree.specs.LeastBounds.{IsLeastOfLeaves};
 ghost use Rattle.search_trees.specs.RootedTrees.{FitsRoad};
-ghost use Rattle.search_trees.specs.Proving.{HasProvingLeaves};
+ghost use Rattle.cert_tree.specs.Proving.{HasProvingLeaves};
 ghost use Rattle.search_trees.specs.inside.LeastPairs.{IsFractionOf, IsKeyOrNone, IsLeastPair, lesser};
 
 use crate::rooted::SearchTree;
@@ -22,6 +22,7 @@ use std::alloc::{AllocError, Global};
 /// The least value over scale of the low leaves of a tree that fits the road, each on its own box, in lowest terms; none
 /// exactly where every leaf is dead. Where no multiplier of a row that asks for at least its right side is below 0 and the value of each
 /// dead leaf is above 0, no admissible plan inside the root costs less, over any denominator, and without a bound there is none.
+/// Whatever tree is sound on whichever box that fits the road bounds the plans inside so, as `any_sound` says.
 pub fn least_bound(
     alloc: Global,
     road: &Road,
@@ -32,12 +33,14 @@ pub fn least_bound(
     ensures least { IfOk result (λ bound. IsLeastOfLeaves road.now (box_tree_of tree.now.tree) tree.now.root bound) }
     ensures bounds { HasProvingLeaves road.now (box_tree_of tree.now.tree) tree.now.root
         → IfOk result (λ bound. Bounds road.now bound tree.now.root) }
+    ensures any_sound { SoundTreesBound road.now }
 {
     bound_of(alloc, road, tree.tree(), tree.root())
 }
 
-/// The least bound of a tree on a box.
-fn bound_of(
+/// The least bound of a tree on a box that fits the road: the least value over scale of its low leaves, each on its own
+/// box, in lowest terms; none exactly where every leaf is dead.
+pub fn bound_of(
     alloc: Global,
     road: &Road,
     tree: &Tree,

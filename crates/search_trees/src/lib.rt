@@ -5,5 +5,5 @@ mod least;
 mod places;
 mod rooted;
 
-pub use least::least_bound;
+pub use least::{bound_of, least_bound};
 pub use rooted::SearchTree;

@@ -2,14 +2,14 @@
 // that was due before it is undone.
 use crate::runs::{Limits, NO_LIMITS, Outcome, ran, untouched};
 use crate::texts::{
-    BLOCK_CERT, BLOCK_PLAN, BLOCK_PLAN_OFF, BLOCK_REPORT, BLOCK_ROAD, PAIR_CERT, PAIR_PLAN,
-    PAIR_PLAN_OFF, PAIR_REPORT, PAIR_ROAD, PIT_REPORT, PIT_ROAD, TABLE_ROAD,
+    BLOCK_CERT, BLOCK_PLAN, BLOCK_PLAN_OFF, BLOCK_REPORT, BLOCK_ROAD, PAIR_CERT, PAIR_MASS,
+    PAIR_PLAN, PAIR_PLAN_OFF, PAIR_REPORT, PAIR_ROAD, PIT_REPORT, PIT_ROAD, TABLE_ROAD,
 };
 use roadopt_program::Status;
 use std::test::Fail;
 
 const USAGE: &[u8] =
-    b"usage: judge ROAD PLAN, check ROAD CERT, replay ROAD CERT, solve ROAD CERT, trial NUMBER\n";
+    b"usage: judge ROAD PLAN, check ROAD CERT, replay ROAD CERT, solve ROAD CERT, trial NUMBER, carry ROAD CERT NEW, mass ROAD CERT\n";
 
 /// What stands in the certificate's file before it is written.
 const OLD: &[u8] = b"old\n";
@@ -29,7 +29,7 @@ struct Due {
 }
 
 /// The commands that answer from two files, each on two roads.
-static READING: [Due; 6] = [
+static READING: [Due; 7] = [
     Due {
         name: "judge on two sections",
         words: &["judge", "road", "plan"],
@@ -58,6 +58,16 @@ static READING: [Due; 6] = [
         puts: 1,
         status: Status::Done,
         output: PAIR_REPORT,
+        has_cert: false,
+    },
+    Due {
+        name: "mass on two sections",
+        words: &["mass", "road", "cert"],
+        files: &[("road", PAIR_ROAD), ("cert", PAIR_CERT)],
+        reads: 2,
+        puts: 1,
+        status: Status::Done,
+        output: PAIR_MASS,
         has_cert: false,
     },
     Due {
@@ -127,7 +137,7 @@ static SOLVING: [Due; 3] = [
 ];
 
 /// Words and files that are refused.
-static REFUSED: [Due; 12] = [
+static REFUSED: [Due; 14] = [
     Due {
         name: "no words",
         words: &[],
@@ -239,6 +249,26 @@ static REFUSED: [Due; 12] = [
         has_cert: false,
     },
     Due {
+        name: "mass and a further word",
+        words: &["mass", "road", "cert", "new"],
+        files: &[("road", PAIR_ROAD), ("cert", PAIR_CERT)],
+        reads: 0,
+        puts: 1,
+        status: Status::Usage,
+        output: USAGE,
+        has_cert: false,
+    },
+    Due {
+        name: "mass on two sections, a certificate that is refused",
+        words: &["mass", "road", "cert"],
+        files: &[("road", PAIR_ROAD), ("cert", BLOCK_CERT)],
+        reads: 2,
+        puts: 1,
+        status: Status::CertRefused,
+        output: b"certificate refused: C2 line 4\n",
+        has_cert: false,
+    },
+    Due {
         name: "replay on two sections, a certificate that is refused",
         words: &["replay", "road", "cert"],
         files: &[("road", PAIR_ROAD), ("cert", BLOCK_CERT)],
@@ -251,7 +281,7 @@ static REFUSED: [Due; 12] = [
 ];
 
 /// Files that aren't there.
-static MISSING: [Due; 8] = [
+static MISSING: [Due; 10] = [
     Due {
         name: "judge without a road",
         words: &["judge", "road", "plan"],
@@ -285,6 +315,26 @@ static MISSING: [Due; 8] = [
     Due {
         name: "check without a certificate",
         words: &["check", "road", "cert"],
+        files: &[("road", PAIR_ROAD)],
+        reads: 2,
+        puts: 0,
+        status: Status::Missing,
+        output: b"",
+        has_cert: false,
+    },
+    Due {
+        name: "mass without a road",
+        words: &["mass", "road", "cert"],
+        files: &[("cert", PAIR_CERT)],
+        reads: 1,
+        puts: 0,
+        status: Status::Missing,
+        output: b"",
+        has_cert: false,
+    },
+    Due {
+        name: "mass without a certificate",
+        words: &["mass", "road", "cert"],
         files: &[("road", PAIR_ROAD)],
         reads: 2,
         puts: 0,

@@ -191,6 +191,19 @@ removal,0/1
 total,225000/1
 ";
 
+/// The mass diagram of its plan.
+pub(crate) const PAIR_MASS: &[u8] = b"\
+mass
+stage,hop,from,to,net
+1,1,1,2,25000/1
+zones
+stage,from,to,direction,peak
+1,1,2,right,25000/1
+moment
+stage,litremetres
+1,500000/1
+";
+
 /// Three sections, a block at the second, and two stages.
 pub(crate) const BLOCK_ROAD: &[u8] = b"\
 version = 1

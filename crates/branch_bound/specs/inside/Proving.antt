@@ -1,5 +1,5 @@
--- What is proved of one box, and how multipliers are written down and narrowed.
-use Rattle.std.specs.Prelude.{◌≡◌, ℕ, ◌≤◌, ◌<◌, ◌⊎◌, ◌^◌, ◌++◌, List, [], ◌∷◌, take, slice_index_or, ℤ, pos, ◌≤ℤ◌, ◌<ℤ◌, unsigned_abs, ◌==◌, if◌then◌else◌}
+-- What is proved of one box, by multipliers that were narrowed.
+use Rattle.std.specs.Prelude.{◌≡◌, ℕ, ◌≤◌, ◌<◌, ◌⊎◌, ◌^◌, List, slice_index_or, ℤ, pos, ◌≤ℤ◌, ◌<ℤ◌, unsigned_abs}
 use Rattle.std.specs.List.{Contains}
 use Rattle.algebra.specs.Scale.{IsScale, greatest_scale}
 use Rattle.programs.specs.Programs.{Program, row_count}
@@ -18,15 +18,6 @@ pub record IsProvedOn (program : Program) (scale : ℤ) (mults : List ℤ) (prov
   pub value_is : proved.value ≡ told_value program proved.scale proved.mults
   pub value_within : unsigned_abs proved.value ≤ 2 ^ 86
   pub narrow_key : IsNarrowKey program scale mults (proved.value, proved.scale)
-
--- the pairs are the first multipliers as they are written down
-pub record IsWritten (mults : List ℤ) (count : ℕ) (pairs : List (ℕ × ℤ)) : Type 0 where
-  pub on_rows : AreMultipliersBehind count 0 pairs
-  pub same : dense count pairs ≡ take count mults
-
--- the pairs with one more, unless its multiplier is 0
-abbrev pub pushed_unless_zero : List (ℕ × ℤ) → ℕ → ℤ → List (ℕ × ℤ)
-pushed_unless_zero pairs row mult = if unsigned_abs mult == 0 then pairs else pairs ++ ((row, mult) ∷ [])
 
 -- the scale, or the magnitude of a multiplier, and past the limit
 pub record IsNumberPastLimit (scale : ℤ) (mults : List ℤ) (number : ℤ) : Type 0 where

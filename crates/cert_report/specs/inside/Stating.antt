@@ -4,6 +4,7 @@ use Rattle.road_types.specs.declared.road.Road.{Road}
 use Rattle.plan_text.specs.declared.error.TextErr.{TextErr}
 use Rattle.plan_text.specs.declared.error.TextErr.TheVariants.{Bad, NoMemory}
 use Rattle.cert_text.specs.CertText.{Certificate}
+use Rattle.cert_text.specs.declared.heading.Heading.{Heading}
 use Rattle.cert_text.specs.Validity.{IsValidText}
 use Rattle.cert_report.specs.declared.replaying.Stated.{Stated}
 use Rattle.cert_report.specs.CertReport.{open_leaves}
@@ -19,6 +20,16 @@ abbrev pub States : Certificate → Result Stated TextErr → Type 0
 States cert (Ok stated) = IsStatedBy cert stated
 States cert (Err (Bad line)) = ⊥
 States cert (Err NoMemory) = Unit {0}
+
+-- the same of what stands before a certificate's tree
+pub record IsHeadingOf (cert : Certificate) (heading : Heading) : Type 0 where
+  pub planned_is : heading.planned ≡ cert.planned
+  pub bound_is : heading.bound ≡ cert.bound
+
+abbrev pub StatesHeading : Certificate → Result Heading TextErr → Type 0
+StatesHeading cert (Ok heading) = IsHeadingOf cert heading
+StatesHeading cert (Err (Bad line)) = ⊥
+StatesHeading cert (Err NoMemory) = Unit {0}
 
 -- the bytes are the text of a valid certificate, which states a plan beside a bound alone
 pub record HasReport (road : Road) (bytes : List ℕ) : Type 0 where

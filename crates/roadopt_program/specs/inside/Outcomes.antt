@@ -1,7 +1,7 @@
 -- What the private functions of a run hand on to each other.
 --     end_of, made_end      what was made, as an end
 --     MakesRoad, IsRoadMade, IsRoadRead      the road that was made is the one that is due
---     OfBytes, IsMadeOnRoad, IsMade, IsMadeFor      what was made is what is due
+--     IsMadeOnRoad, IsMade, IsMadeFor      what was made is what is due
 --     Prints, Finishes      what became of a due end; IsCarriedOut, Outcome, IsTried, TrialOutcome, TriesOnly      of a whole run
 use Rattle.std.specs.Prelude.{◌≡◌, ℕ, ◌⊎◌, IsTrue, Option, Some, None, Result, Ok, Err, List}
 use Rattle.std.specs.Option.{option_map}
@@ -10,21 +10,16 @@ use Rattle.outside.specs.Files.{Files}
 use Rattle.outside.specs.Written.{GrewBy, GrewByPrefix}
 use Rattle.road_types.specs.declared.road.Road.{Road}
 use Rattle.cert_text.specs.declared.cert.Cert.{Cert}
-use Rattle.branch_bound.specs.declared.finding.Found.{Found}
 use Rattle.branch_bound.specs.declared.notes.NodeNote.{NodeNote}
 use Rattle.roadopt_program.specs.declared.ending.Ending.{Ending}
 use Rattle.roadopt_program.specs.declared.ending.Made.{Made}
-use Rattle.roadopt_program.specs.declared.forms.Verb.{Verb}
-use Rattle.roadopt_program.specs.declared.forms.Verb.TheVariants.{Judge, Check, Replay, Solve}
+use Rattle.roadopt_program.specs.declared.ending.Product.{Product}
 use Rattle.roadopt_program.specs.declared.status.Status.{Status}
 use Rattle.roadopt_program.specs.declared.status.Status.TheVariants.{WriteFault, NoMemory}
-use Rattle.roadopt_program.specs.CertChecking.{Checks}
 use Rattle.roadopt_program.specs.Due.{road_due, FollowsRoad, IsDueOnRoad}
 use Rattle.roadopt_program.specs.Ends.{End, NamedBytes, said, Output, after_fault, files_with}
-use Rattle.roadopt_program.specs.CommandWords.{RoadCommand, Command, on_road, trial}
+use Rattle.roadopt_program.specs.CommandWords.{RoadCommand, Command, on_road, trial, name_written}
 use Rattle.roadopt_program.specs.Inputs.{road_limit, other_limit, IsGiven, IsGivenWithin, IsGivenIfNamed, table_named}
-use Rattle.roadopt_program.specs.Judging.{Judges}
-use Rattle.roadopt_program.specs.Replaying.{Replays}
 use Rattle.roadopt_program.specs.Runs.{HandsOut, IsUnwritten, IsGivenUp}
 use Rattle.roadopt_program.specs.Statuses.{is_silent}
 use Rattle.roadopt_program.specs.Trying.{Tries}
@@ -74,36 +69,29 @@ pub record IsRoadRead (told : Option Files) (name : List ℕ) (reads_before read
   pub makes : MakesRoad (road_due bytes table) made
   pub no_fault : bytes ≡ None → reads_now ≡ reads_before
 
--- the end of a command for the bytes of its further file
-abbrev pub OfBytes : Verb → Road → List ℕ → End → Type 0
-OfBytes Judge road bytes end = Judges road (Some bytes) end
-OfBytes Check road bytes end = Checks road (Some bytes) end
-OfBytes Replay road bytes end = Replays road (Some bytes) end
-OfBytes Solve road bytes end = ⊥
-
 -- it was made of an accepted road and of what the further file gives, or of what a search found
 pub record IsMadeOnRoad (told : Option Files) (command : RoadCommand) (road : Road) (made : Made) : Type 0 where
   pub bytes : Option (List ℕ)
   pub is_given : IsGivenWithin told command.other (other_limit command.verb) bytes
-  pub follows : FollowsRoad command.verb road command.other bytes made.found (made_end command.other made)
+  pub follows : FollowsRoad command.verb road (name_written command) bytes made.found (made_end (name_written command) made)
 
 -- what was made is due; where the road's file isn't there, no read failed
 pub record IsMade (told : Option Files) (command : RoadCommand) (reads_before reads_now : ℕ) (made : Made) : Type 0 where
-  pub due : IsDueOnRoad told command made.found (made_end command.other made)
+  pub due : IsDueOnRoad told command made.found (made_end (name_written command) made)
   pub no_fault : due.given.road ≡ None → reads_now ≡ reads_before
 
 -- the same of an end, for each command
-pub record IsMadeOfRoad (told : Option Files) (command : RoadCommand) (reads_before reads_now : ℕ) (found : Option Found) (end : End) : Type 0 where
+pub record IsMadeOfRoad (told : Option Files) (command : RoadCommand) (reads_before reads_now : ℕ) (found : Option Product) (end : End) : Type 0 where
   pub due : IsDueOnRoad told command found end
   pub no_fault : due.given.road ≡ None → reads_now ≡ reads_before
 
-abbrev pub IsMadeFor : Option Files → Command → ℕ → ℕ → Option Found → End → Type 0
+abbrev pub IsMadeFor : Option Files → Command → ℕ → ℕ → Option Product → End → Type 0
 IsMadeFor told (on_road command) reads_before reads_now found end = IsMadeOfRoad told command reads_before reads_now found end
 IsMadeFor told (trial number) reads_before reads_now found end = Tries number found end
 
 -- what is due was made, written and printed, as far as that went, and what was found is handed out
 pub record IsCarriedOut (told : Option Files) (command : Command) (files : Option Files) (reads_before reads_now writes_before writes_now : ℕ) (before now : Output) (status : Status) (cert : Option Cert) (notes : List NodeNote) : Type 0 where
-  pub found : Option Found
+  pub found : Option Product
   pub end : End
   pub made : IsMadeFor told command reads_before reads_now found end
   pub finishes : Finishes told files end writes_before writes_now before now status
@@ -123,7 +111,7 @@ Outcome told command files reads_before reads_now writes_before writes_now befor
 
 -- the line of a trial was printed, as far as that went, and what was found is handed out
 pub record IsTried (number : ℕ) (before now : Output) (status : Status) (cert : Option Cert) (notes : List NodeNote) : Type 0 where
-  pub found : Option Found
+  pub found : Option Product
   pub end : End
   pub tries : Tries number found end
   pub prints : Prints end.status end.output before now status

@@ -3,7 +3,7 @@ use Rattle.std.specs.Prelude.{ℤ}
 use Rattle.std.specs.Int.{w128}
 use Rattle.std.proofs.lemmas.Int.{to_z-of_z}
 use Rattle.safe_bounds.specs.Values.{value_of}
-use Rattle.branch_bound.specs.inside.Proving.{IsWritten}
+use Rattle.cert_tree.specs.Written.{IsWritten}
 use Rattle.branch_bound.proofs.ProvingLemmas.{proved_on}
 use Rattle.branch_bound.proofs.proving.prove.Goals as goal
 

@@ -1,6 +1,6 @@
 use Rattle.std.proofs.Common.{sym}
 use Rattle.roadopt_program.proofs.RunLaws.{answered, refused, missing, lost, files_kept, nothing_found, no_usage, unreadable, as_due, some_not_none}
-use Rattle.roadopt_program.proofs.HeadlineLaws.{keeps_solve, keeps_trial, solve_answers, trial_answers}
+use Rattle.roadopt_program.proofs.HeadlineLaws.{keeps_solve, keeps_trial, keeps_carry, solve_answers, carry_answers, trial_answers}
 use Rattle.roadopt_program.proofs.DueLaws.{one_end}
 use Rattle.roadopt_program.proofs.program.run.Goals as goal
 
@@ -42,6 +42,12 @@ returns-clause-solve g c = keeps_solve _ _ _ _ _ _ _ _ (answered _ _ _ _ _ _ _ _
 
 pub returns-clause-trial : goal.returns-clause-trial
 returns-clause-trial g c = keeps_trial _ _ _ _ _ _ _ _ (answered _ _ _ _ _ _ _ _ _ _ _ _ _ (sym c.in-Some.ensures.value) c.carry_out.ensures.outcome)
+
+pub returns-clause-carry : goal.returns-clause-carry
+returns-clause-carry g c = keeps_carry _ _ _ _ _ _ _ _ (answered _ _ _ _ _ _ _ _ _ _ _ _ _ (sym c.in-Some.ensures.value) c.carry_out.ensures.outcome)
+
+pub returns-clause-carry_answers : goal.returns-clause-carry_answers
+returns-clause-carry_answers g c = carry_answers _ _ _ _ _ _ _ _ _ _ _ _ _ (sym c.in-Some.ensures.value) c.carry_out.ensures.outcome
 
 pub returns-clause-as_due : goal.returns-clause-as_due
 returns-clause-as_due g c = as_due _ _ _ _ _ _ _ _ _ _ _ _ _ (sym c.in-Some.ensures.value) c.carry_out.ensures.outcome

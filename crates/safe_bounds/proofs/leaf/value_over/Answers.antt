@@ -13,7 +13,7 @@ least_share-requires-clause-width c =
     let at : FitsSigned w128 (get_or c.draw_rows-value.new.drawn c.loop-place.place (pos 0)) = search rules in
     let reduced : FitsSigned w128 c.reduced_cost-reduced.result = search rules in
     let l : c.loop-place.place < column_count c.args.milp.now = omega arith in
-    let value = simp to_z-of_z at c.reduced_cost-reduced.ensures in
+    let value = simp to_z-of_z at c.reduced_cost-reduced.ensures.value in
     let is_reduced = reduced_is c.args.milp.now c.args.scale c.args.mults.now c.draw_rows-value.new.drawn c.loop-place.place c.reduced_cost-reduced.result c.draw_rows-value.ensures.drawn l value in
     simp to_z-of_z (reach_left c.args.milp.now c.args.scale c.args.mults.now c.loop-place.place c.reduced_cost-reduced.result c.requires.scale c.requires.mults.within c.requires.limits.light l is_reduced)
 
@@ -24,7 +24,7 @@ plus-value-requires c =
     let reduced : FitsSigned w128 c.reduced_cost-reduced.result = search rules in
     let added : FitsSigned w128 c.least_share.result = search rules in
     let l : c.loop-place.place < column_count c.args.milp.now = omega arith in
-    let value = simp to_z-of_z at c.reduced_cost-reduced.ensures in
+    let value = simp to_z-of_z at c.reduced_cost-reduced.ensures.value in
     let is_reduced = reduced_is c.args.milp.now c.args.scale c.args.mults.now c.draw_rows-value.new.drawn c.loop-place.place c.reduced_cost-reduced.result c.draw_rows-value.ensures.drawn l value in
     let share = simp to_z-of_z at c.least_share.ensures in
     let is_share = share_is c.args.milp.now c.args.scale c.args.mults.now (c.loop-place.place + 1) c.reduced_cost-reduced.result c.least_share.result is_reduced share in
@@ -38,7 +38,7 @@ loop-place-preserved c =
     let reduced : FitsSigned w128 c.reduced_cost-reduced.result = search rules in
     let added : FitsSigned w128 c.least_share.result = search rules in
     let l : c.loop-place.place < column_count c.args.milp.now = omega arith in
-    let value = simp to_z-of_z at c.reduced_cost-reduced.ensures in
+    let value = simp to_z-of_z at c.reduced_cost-reduced.ensures.value in
     let is_reduced = reduced_is c.args.milp.now c.args.scale c.args.mults.now c.draw_rows-value.new.drawn c.loop-place.place c.reduced_cost-reduced.result c.draw_rows-value.ensures.drawn l value in
     let share = simp to_z-of_z at c.least_share.ensures in
     let is_share = share_is c.args.milp.now c.args.scale c.args.mults.now (c.loop-place.place + 1) c.reduced_cost-reduced.result c.least_share.result is_reduced share in
