@@ -14,7 +14,7 @@ use Rattle.simplex.proofs.Denominators.{wide_denominator}
 use Rattle.simplex.proofs.Endings.{own_optimum}
 use Rattle.simplex.proofs.table.Tableau.fill_optimum.Goals as goal
 
-pub returns-in_default-clause-wide : goal.returns-in-None-clause-wide
+pub returns-in_default-clause-wide : goal.returns-in_default-clause-wide
 returns-in_default-clause-wide g c =
     let law = g.met.W.Narrow.below_wide in
     let over : 2 ^ 127 - 1 < unsigned_abs (whole_of c.in-Ok.den.value) = beyond _ _ (λ l. c.in_default.ensures.some.1 (omega arith)) in
