@@ -136,12 +136,7 @@ fn is_ratio_less<W: Narrow>(cost: W, value: W, other_cost: W, other_value: W) ->
 }
 
 /// The same by products of 128 bits. `None` where those don't hold one.
-fn is_narrow_ratio_less<W: Narrow>(
-    cost: W,
-    value: W,
-    other_cost: W,
-    other_value: W,
-) -> Option<bool>
+fn is_narrow_ratio_less<W: Narrow>(cost: W, value: W, other_cost: W, other_value: W) -> Option<bool>
     ensures { IfSome result (λ is_less. IsTrue is_less
         ↔ (unsigned_abs (W.meaning cost) * unsigned_abs (W.meaning other_value) < unsigned_abs (W.meaning other_cost) * unsigned_abs (W.meaning value))) }
 {
