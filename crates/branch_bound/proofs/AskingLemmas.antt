@@ -1,6 +1,9 @@
 -- What the functions that look for the split of a point need, said of a road without a fault: one lemma for each step.
-use Rattle.std.proofs.Common.{◌≡◌, ℕ, ◌-◌, None, List, length, get_or, sym, subst}
-use Rattle.std.specs.Prelude.{ℤ, pos, ◌≤ℤ◌}
+use Rattle.std.proofs.Common.{◌≡◌, ℕ, ◌+◌, ◌-◌, ◌<◌, ◌⊎◌, Option, None, Some, List, length, get_or, sym, subst, arith, ⊎_elim}
+use Rattle.std.specs.Prelude.{ℤ, pos, ◌≤ℤ◌, ◌<ℤ◌, MatchOption}
+use Rattle.std.proofs.lemmas.Int.{ints}
+use Rattle.algebra.specs.Scale.{greatest_scale}
+use Rattle.algebra.proofs.Order.{int_lt_or_le}
 use Rattle.algebra.proofs.NumberedLemmas.{numbered_at}
 use Rattle.programs.specs.Points.{IsPoint}
 use Rattle.road_types.specs.Numbered.{IsNumber}
@@ -12,15 +15,18 @@ use Rattle.road_types.proofs.AcceptedRoad.{IsAccepted-from_fault}
 use Rattle.road_types.specs.declared.road.Road.{Road}
 use Rattle.volume_lines.specs.InnerBreakpoints.{HasBreakpointInside}
 use Rattle.volume_lines.specs.SlabTables.{HasSlabTables}
+use Rattle.road_points.specs.Shown.{IsExactAt, HasExactVolumes}
 use Rattle.road_points.proofs.FormsHold.{tables_of}
 use Rattle.milp_builder.specs.Boxes.{IsBoxOf}
 use Rattle.milp_builder.specs.BoxPrograms.{box_program}
+use Rattle.milp_builder.specs.Comparing.{IsComparable, greatest_comparable}
 use Rattle.milp_builder.specs.FoundPlans.{IsPartRemoval, IsOtherVolume}
 use Rattle.milp_builder.specs.declared.boxes.BoxRange.{BoxRange}
 use Rattle.milp_builder.specs.declared.boxes.Split.TheVariants.{Removal, Height}
 use Rattle.branch_bound.specs.inside.Asking.{IsAsked}
-use Rattle.branch_bound.specs.inside.Comparing.{IsComparable}
-use Rattle.branch_bound.specs.inside.Splitting.{IsInnerBreakpoint}
+use Rattle.milp_builder.proofs.ShownLemmas.{numbers_more}
+use Rattle.branch_bound.specs.declared.splitting.Candidate.{Candidate}
+use Rattle.branch_bound.specs.inside.Splitting.{IsInnerBreakpoint, IsAskedHeight, IsBestOf}
 use Rattle.branch_bound.proofs.AskedSplits.{removal_asked, height_asked, inside_of}
 
 pub well_formed_of : (road : Road) → road_fault road ≡ None → IsWellFormed road
@@ -55,3 +61,48 @@ height_number road box den point i fits v = subst (IsNumber i) (sym fits.heights
 
 pub range_at : (heights : List (ℤ × ℤ)) (i : ℕ) → IsNumber i (length heights) → get_or heights (i - 1) (pos 0, pos 0) ≡ height_range heights i
 range_at heights i n = sym (numbered_at (pos 0, pos 0) heights i n.from_one)
+
+-- a number from 1 that isn't past the limit
+pub comparable : (den : ℤ) → pos 1 ≤ℤ den → (pos greatest_comparable <ℤ den → ⊥) → IsComparable den
+comparable den one h = record {
+  from_one = one;
+  at_most = ⊎_elim (λ l. absurd (h l)) (λ (l : den ≤ℤ pos greatest_comparable). l) (int_lt_or_le (pos greatest_comparable) den);
+}
+
+-- a denominator past the limit isn't a plan's
+pub past_plans : {P : Type 0} (den : ℤ) → pos greatest_comparable <ℤ den → den ≤ℤ pos greatest_scale → P
+past_plans den past plan = absurd (omega (arith, ints, past, plan))
+
+-- ---- the split of heights that scores best
+
+pub none_best : (road : Road) (box : BoxRange) (den : ℤ) (point : List ℤ) → IsBestOf road box den point 0 None
+none_best road box den point i m = absurd (omega (arith, m.from_one, m.at_most))
+
+pub best_kept : (road : Road) (box : BoxRange) (den : ℤ) (point : List ℤ) (before : ℕ) (best : Option Candidate) → IsBestOf road box den point before best
+    → IsExactAt road den point (before + 1) → IsBestOf road box den point (before + 1) best
+best_kept road box den point before None h e = numbers_more (λ (i : ℕ). IsExactAt road den point i) before h e
+best_kept road box den point before (Some best) h e = h
+
+pub best_next : (road : Road) (box : BoxRange) (den : ℤ) (point : List ℤ) (before : ℕ) (best : Option Candidate) (next better : Candidate)
+    → IsBestOf road box den point before best → IsAskedHeight road box den point next → (better ≡ next) ⊎ (Some better ≡ best)
+    → IsBestOf road box den point (before + 1) (Some better)
+best_next road box den point before best next better h n e =
+    ⊎_elim
+    (λ (same : better ≡ next). subst (IsAskedHeight road box den point) (sym same) n)
+    (λ (same : Some better ≡ best). subst (IsBestOf road box den point before) (sym same) h)
+    e
+
+pub best_of_all : (road : Road) (box : BoxRange) (den : ℤ) (point : List ℤ) (count : ℕ) (best : Option Candidate) → count ≡ section_count road
+    → IsBestOf road box den point count best → MatchOption best (HasExactVolumes road den point) (λ candidate. IsAskedHeight road box den point candidate)
+best_of_all road box den point count None c h = record { each = λ i n. h i (subst (IsNumber i) (sym c) n) }
+best_of_all road box den point count (Some best) c h = h
+
+pub best_is_asked : (road : Road) (box : BoxRange) (den : ℤ) (point : List ℤ) (best : Candidate) → road_fault road ≡ None → IsBoxOf road box → IsComparable den
+    → IsPoint (box_program road box) den point → IsAskedHeight road box den point best → IsAsked road box den point (Height best.section best.at)
+best_is_asked road box den point best h fits d p b = height_is_asked road box den point best.section best.at h fits d p b.other b.inside
+
+pub next_number : (road : Road) (before : ℕ) → before < section_count road → IsNumber (before + 1) (section_count road)
+next_number road before l = record { from_one = omega arith; at_most = omega arith }
+
+pub other_at : (road : Road) (den : ℤ) (point : List ℤ) (i : ℕ) → IsNumber i (section_count road) → (IsExactAt road den point i → ⊥) → IsOtherVolume road den point i
+other_at road den point i n e = record { number = n; not_exact = e }

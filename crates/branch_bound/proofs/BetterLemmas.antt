@@ -16,7 +16,9 @@ use Rattle.tableau.specs.Tableaux.{Tableau}
 use Rattle.branch_bound.specs.Stops.{IsPastLimit, IsMultiplierPastLimit, HasPlanWithin, IsStop}
 use Rattle.branch_bound.specs.Noted.{IsShownSplit}
 use Rattle.branch_bound.specs.inside.Better.{IsNoDearer, IsBetter}
-use Rattle.branch_bound.specs.inside.Grown.{Grown, dead_leaf, whole_leaf, stopped_leaf, waiting_leaf, grown_fork, IsGoodNode}
+use Rattle.branch_bound.specs.inside.Grown.{Grown, dead_leaf, whole_leaf, stopped_leaf, waiting_leaf, grown_fork, IsGoodNode, IsReason, proved_key}
+use Rattle.branch_bound.specs.declared.work.Reason.{Reason}
+use Rattle.branch_bound.specs.declared.work.Reason.TheVariants.{Asked, Stop}
 use Rattle.branch_bound.specs.declared.notes.NodeNote.{NodeNote}
 use Rattle.branch_bound.specs.declared.notes.NodeNote.TheVariants.{Fractional, Closed, Dead, Pivots, Wide, Limit, Nodes}
 
@@ -72,13 +74,27 @@ split_along road new old program split Closed b h = absurd h.1
 split_along road new old program split Dead b h = absurd h.1
 split_along road new old program split (Nodes trail den point scale mults) b h = absurd h.1
 
+reason_along : (road : Road) (new old : Option Fraction) (program : Program) (split : Split) (key : ℤ × ℤ) (reason : Reason) → IsBetter new old
+    → IsReason road old program split key reason → IsReason road new program split key reason
+reason_along road new old program split key (Asked o) b h = h
+reason_along road new old program split key (Stop note) b h = record {
+  tableau = h.tableau;
+  stop = stop_along road new old program note h.tableau b h.stop;
+  narrow_key = h.narrow_key;
+}
+
 -- what is good stays good where a cheaper plan is found
 pub good_along : (road : Road) (new old : Option Fraction) (grown : Grown) (box : BoxRange) → IsBetter new old → IsGoodNode road old grown box → IsGoodNode road new grown box
 good_along road new old (dead_leaf mults) box b h = h
 good_along road new old (whole_leaf proved) box b h = (h.0, bound_along new old proved.value proved.scale b h.0.scale_within.from_one h.1)
 good_along road new old (stopped_leaf proved note) box b h =
     (h.0, (h.1.0, (stop_along road new old (box_program road box) note h.1.0 b h.1.1.0, h.1.1.1)))
-good_along road new old (waiting_leaf leaf) box b h = h
+good_along road new old (waiting_leaf leaf) box b h = record {
+  range = h.range;
+  splits = h.splits;
+  reason = reason_along road new old (box_program road box) leaf.split (proved_key leaf.proved) leaf.reason b h.reason;
+  own_bound = h.own_bound;
+}
 good_along road new old (grown_fork split note key first second) box b h = (
   h.0,
   split_along road new old (box_program road box) split note b h.1,

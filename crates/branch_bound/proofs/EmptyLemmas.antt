@@ -14,6 +14,7 @@ use Rattle.safe_bounds.specs.Values.{value_of, IsMultiplier, HasRightSigns}
 use Rattle.safe_bounds.specs.Narrowing.{AreNarrow, IsNarrowed}
 use Rattle.safe_bounds.specs.Sparse.{dense}
 use Rattle.road_types.specs.declared.road.Road.{Road}
+use Rattle.milp_builder.specs.declared.boxes.BoxRange.{BoxRange}
 use Rattle.cert_tree.specs.Trees.{AreMultipliersBehind}
 use Rattle.tableau.specs.declared.exchange.Exchange.{Exchange}
 use Rattle.simplex.specs.Ends.{IsDead}
@@ -101,7 +102,7 @@ limit_stop road program trail numbers scale mults greatest narrow_scale narrow_m
     absurd (omega (arith, ints)))
     (int_lt_or_le (pos greatest_scale) greatest)
 
-pub limit_leaf_is : (road : Road) (program : Program) (trail : List Exchange) (scale : ℤ) (mults : List ℤ) (greatest : ℤ) (leaf : Work)
-    → IsStoppedLeaf program scale mults (Limit trail greatest) leaf
-    → ((cost : Option Fraction) → IsStopWith road cost program (Limit trail greatest) scale mults) → IsLimitLeaf road program trail scale mults leaf
-limit_leaf_is road program trail scale mults greatest leaf l s = record { number = greatest; leaf_is = l; stop = s }
+pub limit_leaf_is : (road : Road) (box : BoxRange) (program : Program) (trail : List Exchange) (scale : ℤ) (mults : List ℤ) (greatest : ℤ) (leaf : Work)
+    → IsStoppedLeaf road box program scale mults (Limit trail greatest) leaf
+    → ((cost : Option Fraction) → IsStopWith road cost program (Limit trail greatest) scale mults) → IsLimitLeaf road box program trail scale mults leaf
+limit_leaf_is road box program trail scale mults greatest leaf l s = record { number = greatest; leaf_is = l; stop = s }

@@ -18,10 +18,10 @@ use Rattle.tableau.specs.declared.op.Op.{Op}
 use Rattle.simplex.specs.Ends.{IsDead, IsSpent, IsWide, IsOptimum, AreWithin}
 use Rattle.branch_bound.specs.Optima.{exchange_budget}
 use Rattle.branch_bound.specs.inside.Asking.{IsAsked}
-use Rattle.branch_bound.specs.inside.Grown.{dead_leaf, stopped_leaf, waiting_leaf, grown_of, IsGoodNode}
+use Rattle.branch_bound.specs.inside.Grown.{dead_leaf, waiting_leaf, grown_of, IsGoodNode}
 use Rattle.branch_bound.specs.inside.Proving.{IsProvedOn, IsGreatestOf}
 use Rattle.branch_bound.specs.inside.Searches.{best_cost, IsBest, IsSolvedBox}
-use Rattle.branch_bound.specs.inside.Solving.{AreProving, IsStoppedLeaf, IsStopWith, AreDeadMults, IsEmptyLeaf, IsOptimumOf}
+use Rattle.branch_bound.specs.inside.Solving.{AreProving, IsStopOf, IsStoppedLeaf, IsStopWith, AreDeadMults, IsEmptyLeaf, IsOptimumOf}
 use Rattle.branch_bound.specs.declared.notes.NodeNote.{NodeNote}
 use Rattle.branch_bound.specs.declared.notes.NodeNote.TheVariants.{Pivots, Wide, Limit}
 use Rattle.branch_bound.specs.declared.best.Best.{Best}
@@ -29,6 +29,7 @@ use Rattle.branch_bound.specs.inside.Solved.{Solved}
 use Rattle.branch_bound.specs.declared.work.Proved.{Proved}
 use Rattle.branch_bound.specs.declared.work.Optimum.{Optimum}
 use Rattle.branch_bound.specs.declared.work.Waiting.{Waiting}
+use Rattle.branch_bound.specs.declared.work.Reason.TheVariants.{Asked}
 use Rattle.branch_bound.specs.declared.work.Work.{Work}
 use Rattle.branch_bound.proofs.EmptyLemmas.{dead_leaf_is, limit_stop}
 use Rattle.branch_bound.proofs.SolvingLemmas.{own_proving, ray_proving, proved_is, leaf_from, stop_good, empty_good, solved_same, spent_stop, wide_stop}
@@ -52,17 +53,17 @@ module _ (program : Program) (budget : ℕ) (trail : List Exchange) (numbers : L
   pub dead_proving : IsDead program budget trail numbers scale mults → AreWithin (2 ^ 127 - 1) mults → AreProving program scale mults
   dead_proving h within = own_proving program budget trail h.tableau scale mults h.reached h.own within
 
-module _ (road : Road) (program : Program) (trail : List Exchange) (numbers : List ℤ) (scale : ℤ) (mults : List ℤ)
+module _ (road : Road) (box : BoxRange) (program : Program) (trail : List Exchange) (numbers : List ℤ) (scale : ℤ) (mults : List ℤ)
     (dead : IsDead program (exchange_budget road) trail numbers scale mults) where
   pub empty_dead : (narrow : List ℤ) (pairs : List (ℕ × ℤ)) (leaf : Work) → length narrow ≡ length numbers
       → ((p : Program) → HasRightSigns p numbers → HasRightSigns p narrow) → AreDeadMults program narrow (Some pairs) → grown_of leaf ≡ dead_leaf pairs
-      → IsEmptyLeaf road program trail scale mults leaf
+      → IsEmptyLeaf road box program trail scale mults leaf
   empty_dead narrow pairs leaf c signs d e =
       inl (dead_leaf_is program narrow pairs leaf (c ∙ dead_rows program (exchange_budget road) trail numbers scale mults dead) (signs program dead.ray_signs) d e)
 
   pub empty_limit : (greatest top narrow_scale : ℤ) (narrow : List ℤ) (leaf : Work) → IsGreatestOf numbers (length numbers) greatest → top ≡ int_max greatest (pos 1)
       → IsNarrowed top numbers narrow_scale narrow → (AreNarrow top numbers → (narrow_scale ≡ top) × (narrow ≡ numbers))
-      → AreDeadMults program narrow None → IsStoppedLeaf program scale mults (Limit trail greatest) leaf → IsEmptyLeaf road program trail scale mults leaf
+      → AreDeadMults program narrow None → IsStoppedLeaf road box program scale mults (Limit trail greatest) leaf → IsEmptyLeaf road box program trail scale mults leaf
   empty_limit greatest top narrow_scale narrow leaf g e n unchanged nothing s =
       inr (record {
         number = greatest;
@@ -86,47 +87,45 @@ module _ (program : Program) (budget : ℕ) (trail : List Exchange) (scale : ℤ
 
 module _ (road : Road) (best : Option Best) (box : BoxRange) (program : Program) (solved : Solved) (b : IsBest road best) (p : program ≡ box_program road box)
     (same : solved.best ≡ best) where
-  stopped_solved : (note : NodeNote) (scale : ℤ) (mults : List ℤ) → IsStoppedLeaf program scale mults note solved.leaf
+  stopped_solved : (note : NodeNote) (scale : ℤ) (mults : List ℤ) → IsStoppedLeaf road box program scale mults note solved.leaf
       → IsStopWith road (best_cost best) program note scale mults → IsSolvedBox road best box solved
   stopped_solved note scale mults s stop =
       let proved_on = subst (λ (q : Program). IsProvedOn q scale mults s.proved) p s.proved_on in
       let here = subst (λ (q : Program). IsStopWith road (best_cost best) q note scale mults) p stop in
       solved_same road best box solved b same (stop_good road (best_cost best) box scale mults note s.proved solved.leaf proved_on s.is_stopped here)
 
-  pub spent_solved : (trail : List Exchange) (scale : ℤ) (mults : List ℤ) → IsStoppedLeaf program scale mults (Pivots trail) solved.leaf
+  pub spent_solved : (trail : List Exchange) (scale : ℤ) (mults : List ℤ) → IsStoppedLeaf road box program scale mults (Pivots trail) solved.leaf
       → IsSpent program (exchange_budget road) trail scale mults → IsSolvedBox road best box solved
   spent_solved trail scale mults s h = stopped_solved (Pivots trail) scale mults s (spent_stop road (best_cost best) program trail scale mults h)
 
-  pub wide_solved : (trail : List Exchange) (op : Op) (scale : ℤ) (mults : List ℤ) → IsStoppedLeaf program scale mults (Wide trail op) solved.leaf
+  pub wide_solved : (trail : List Exchange) (op : Op) (scale : ℤ) (mults : List ℤ) → IsStoppedLeaf road box program scale mults (Wide trail op) solved.leaf
       → IsWide (2 ^ 127 - 1) program (exchange_budget road) trail op scale mults → IsSolvedBox road best box solved
   wide_solved trail op scale mults s h = stopped_solved (Wide trail op) scale mults s (wide_stop road (best_cost best) program trail op scale mults h)
 
-  pub empty_solved : (trail : List Exchange) (scale : ℤ) (mults : List ℤ) → IsEmptyLeaf road program trail scale mults solved.leaf → IsSolvedBox road best box solved
+  pub empty_solved : (trail : List Exchange) (scale : ℤ) (mults : List ℤ) → IsEmptyLeaf road box program trail scale mults solved.leaf → IsSolvedBox road best box solved
   empty_solved trail scale mults h =
       solved_same road best box solved b same
-      (empty_good road (best_cost best) box trail scale mults solved.leaf (subst (λ (q : Program). IsEmptyLeaf road q trail scale mults solved.leaf) p h))
+      (empty_good road (best_cost best) box trail scale mults solved.leaf (subst (λ (q : Program). IsEmptyLeaf road box q trail scale mults solved.leaf) p h))
 
 -- ---- a box with an optimum
 
 module _ (road : Road) (best : Option Best) (box : BoxRange) (optimum : Optimum) (proved : Proved) (solved : Solved) (b : IsBest road best)
     (o : IsOptimumOf road box optimum proved) (same : solved.best ≡ best) where
   pub waiting_solved : (split : Split) (leaf : Waiting) → IsAsked road box optimum.den optimum.point split
-      → leaf ≡ record { range = box; split = split; optimum = optimum; proved = proved } → grown_of solved.leaf ≡ waiting_leaf leaf → IsSolvedBox road best box solved
+      → leaf ≡ record { range = box; split = split; reason = Asked optimum; proved = proved } → grown_of solved.leaf ≡ waiting_leaf leaf → IsSolvedBox road best box solved
   waiting_solved split leaf asked l e =
-      let waiting : Waiting = record { range = box; split = split; optimum = optimum; proved = proved } in
+      let waiting : Waiting = record { range = box; split = split; reason = Asked optimum; proved = proved } in
       let good : IsGoodNode road (best_cost best) (waiting_leaf waiting) box = record {
         range = refl;
         splits = asked.splits;
-        asks = asked.asks;
-        optimum = o.own_optimum;
-        narrow_key = o.proved_on.narrow_key;
+        reason = record { optimum = o.own_optimum; asks = asked.asks; narrow_key = o.proved_on.narrow_key };
         own_bound = proved_is road box optimum.scale optimum.mults proved o.proved_on;
       } in
       solved_same road best box solved b same
       (leaf_from road (best_cost best) box solved.leaf (waiting_leaf waiting) (e ∙ ap (λ (w : Waiting). waiting_leaf w) l) tt good)
 
   pub denominator_solved : HasWholeRemovals road optimum.den optimum.point → pos greatest_scale <ℤ optimum.den
-      → grown_of solved.leaf ≡ stopped_leaf proved (Limit optimum.trail optimum.den) → IsSolvedBox road best box solved
+      → IsStopOf road box proved (Limit optimum.trail optimum.den) (grown_of solved.leaf) → IsSolvedBox road best box solved
   denominator_solved whole past e =
       let t = o.own_optimum.tableau in
       let own = o.own_optimum.own in

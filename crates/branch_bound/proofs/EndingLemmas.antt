@@ -18,12 +18,11 @@ use Rattle.cert_tree.specs.Trees.{BoxTree, low, dead, fork}
 use Rattle.cert_tree.specs.Soundness.{box_value, IsAtLeastBound, IsSound, has_low}
 use Rattle.cert_tree.specs.LeastBounds.{IsAtMostLeaves, IsOfSomeLeaf, IsLeastOfLeaves}
 use Rattle.cert_tree.specs.declared.tree.Why.{Why}
-use Rattle.cert_tree.specs.declared.tree.Why.TheVariants.{Nodes as ForNodes}
 use Rattle.cert_tree.proofs.Lift.{sound_bounds}
 use Rattle.best_first.proofs.KeyLemmas.{at_most_along}
 use Rattle.branch_bound.specs.Noted.{Noted, low_with, dead_with, fork_with, tree_of, AreShown}
 use Rattle.branch_bound.specs.Endings.{HasPlanAt, IsBelowCost, HasOpenBelow}
-use Rattle.branch_bound.specs.inside.Grown.{Grown, dead_leaf, whole_leaf, stopped_leaf, waiting_leaf, grown_fork, IsGoodNode, IsProvedOfBox, nodes_note, reaches, cause_of, noted_of}
+use Rattle.branch_bound.specs.inside.Grown.{Grown, dead_leaf, whole_leaf, stopped_leaf, waiting_leaf, grown_fork, IsGoodNode, IsProvedOfBox, left_note, left_cause, reaches, cause_of, noted_of}
 use Rattle.branch_bound.specs.declared.work.Proved.{Proved}
 use Rattle.branch_bound.specs.declared.notes.NodeNote.{NodeNote}
 use Rattle.branch_bound.specs.declared.notes.NodeNote.TheVariants.{Fractional, Closed, Dead, Pivots, Wide, Limit, Nodes}
@@ -94,9 +93,9 @@ sound_at_end road cost bound (stopped_leaf proved note) box good h =
     (λ w. low_sound road bound box proved (Some (cause_of note)) good.0 w)) h
 sound_at_end road cost bound (waiting_leaf leaf) box good h =
     (in_both (λ n. IsWithinLeaves road bound (tree_of n) box → IsSound road bound (tree_of n) box) (reaches cost leaf.proved)
-    (low_with leaf.proved.scale leaf.proved.mults None Closed) (low_with leaf.proved.scale leaf.proved.mults (Some ForNodes) (nodes_note leaf.optimum))
+    (low_with leaf.proved.scale leaf.proved.mults None Closed) (low_with leaf.proved.scale leaf.proved.mults (Some (left_cause leaf.reason)) (left_note leaf.reason))
     (λ w. low_sound road bound box leaf.proved None good.own_bound w)
-    (λ w. low_sound road bound box leaf.proved (Some ForNodes) good.own_bound w)) h
+    (λ w. low_sound road bound box leaf.proved (Some (left_cause leaf.reason)) good.own_bound w)) h
 sound_at_end road cost bound (grown_fork split note key first second) box good h =
     (good.0, sound_at_end road cost bound first (first_part box split) good.3 h.0, sound_at_end road cost bound second (second_part box split) good.4 h.1)
 

@@ -7,12 +7,24 @@ use Rattle.std.proofs.lemmas.List.{get_or_append_left, get_or-append-add}
 use Rattle.numbers.specs.Fractions.{Fraction}
 use Rattle.road_types.specs.declared.road.Road.{Road}
 use Rattle.milp_builder.specs.Parts.{first_part, second_part}
+use Rattle.milp_builder.specs.BoxPrograms.{box_program}
 use Rattle.milp_builder.specs.declared.boxes.BoxRange.{BoxRange}
+use Rattle.milp_builder.specs.declared.boxes.Split.{Split}
+use Rattle.programs.specs.Programs.{Program}
+use Rattle.tableau.specs.Tableaux.{Tableau}
+use Rattle.tableau.specs.OwnNumbers.{scale_of, multipliers_of}
 use Rattle.best_first.specs.Keys.{IsAtMost, key_at, IsFirstLeast}
 use Rattle.best_first.specs.KeyTrees.{KeyTree, ended, open_leaf, parted}
 use Rattle.best_first.specs.inside.Covers.{IsOrderedTree, IsAtMostOpen, IsLeaf, IsSplitOnce, open_keys}
 use Rattle.best_first.proofs.OrderLemmas.{ordered_split}
-use Rattle.branch_bound.specs.inside.Grown.{Grown, dead_leaf, whole_leaf, stopped_leaf, waiting_leaf, grown_fork, IsGoodNode, proved_key, keys_of, IsGrownLeaf, node_total, waiting_count, waiting_at, parted_at}
+use Rattle.branch_bound.specs.inside.Grown.{Grown, dead_leaf, whole_leaf, stopped_leaf, waiting_leaf, grown_fork, IsGoodNode, IsReason, split_note, proved_key, keys_of, IsGrownLeaf, node_total, waiting_count, waiting_at, parted_at}
+use Rattle.branch_bound.specs.Stops.{IsStop}
+use Rattle.branch_bound.specs.NoteKeys.{IsNarrowKey, IsKeyOf}
+use Rattle.branch_bound.specs.Noted.{IsShownSplit}
+use Rattle.branch_bound.specs.declared.notes.NodeNote.{NodeNote}
+use Rattle.branch_bound.specs.declared.notes.NodeNote.TheVariants.{Fractional, Closed, Dead, Pivots, Wide, Limit, Nodes}
+use Rattle.branch_bound.specs.declared.work.Reason.{Reason}
+use Rattle.branch_bound.specs.declared.work.Reason.TheVariants.{Asked, Stop}
 use Rattle.branch_bound.specs.declared.work.Waiting.{Waiting}
 
 leaf_keys : (leaf : Grown) → IsGrownLeaf leaf → IsLeaf (keys_of leaf)
@@ -49,6 +61,38 @@ both_tests : {A B : Type 0} (P : A → B → Type 0) (b : Bool) (x y : A) (u v :
 both_tests P true x y u v h k = h refl
 both_tests P false x y u v h k = k refl
 
+-- a stop is the note of a split, and has a key
+stop_splits : (road : Road) (cost : Option Fraction) (program : Program) (split : Split) (note : NodeNote) (t : Tableau) → IsStop road cost program note t
+    → IsShownSplit road cost program split note
+stop_splits road cost program split (Pivots trail) t h = (t, h)
+stop_splits road cost program split (Wide trail op) t h = (t, h)
+stop_splits road cost program split (Limit trail number) t h = (t, h)
+stop_splits road cost program split Closed t h = absurd h
+stop_splits road cost program split Dead t h = absurd h
+stop_splits road cost program split (Fractional trail den point scale mults) t h = absurd h
+stop_splits road cost program split (Nodes trail den point scale mults) t h = absurd h
+
+stop_key : (road : Road) (cost : Option Fraction) (program : Program) (key : ℤ × ℤ) (note : NodeNote) (t : Tableau) → IsStop road cost program note t
+    → IsNarrowKey program (scale_of t) (multipliers_of t) key → IsKeyOf program note key
+stop_key road cost program key (Pivots trail) t h n = (t, (h.0.after, n))
+stop_key road cost program key (Wide trail op) t h n = (t, (h.0.after, n))
+stop_key road cost program key (Limit trail number) t h n = (t, (h.0.after, n))
+stop_key road cost program key Closed t h n = absurd h
+stop_key road cost program key Dead t h n = absurd h
+stop_key road cost program key (Fractional trail den point scale mults) t h n = absurd h
+stop_key road cost program key (Nodes trail den point scale mults) t h n = absurd h
+
+-- so is, and has, the reason for which a leaf waits
+reason_splits : (road : Road) (cost : Option Fraction) (program : Program) (split : Split) (key : ℤ × ℤ) (reason : Reason)
+    → IsReason road cost program split key reason → IsShownSplit road cost program split (split_note reason)
+reason_splits road cost program split key (Asked o) h = (h.optimum, h.asks)
+reason_splits road cost program split key (Stop note) h = stop_splits road cost program split note h.tableau h.stop
+
+reason_key : (road : Road) (cost : Option Fraction) (program : Program) (split : Split) (key : ℤ × ℤ) (reason : Reason)
+    → IsReason road cost program split key reason → IsKeyOf program (split_note reason) key
+reason_key road cost program split key (Asked o) h = h.narrow_key
+reason_key road cost program split key (Stop note) h = stop_key road cost program key note h.tableau h.stop h.narrow_key
+
 module _ (road : Road) (cost : Option Fraction) (one two : Grown) where
   -- the two new leaves are good on the parts of the leaf that they replace
   pub record AreGoodParts (leaf : Waiting) : Type 0 where
@@ -64,8 +108,8 @@ module _ (road : Road) (cost : Option Fraction) (one two : Grown) where
       let same : leaf ≡ own = cc in
       let mine : AreGoodParts own = subst (λ (l : Waiting). AreGoodParts l) same parts in (
         good.splits,
-        (good.optimum, good.asks),
-        good.narrow_key,
+        reason_splits road cost (box_program road box) own.split (proved_key own.proved) own.reason good.reason,
+        reason_key road cost (box_program road box) own.split (proved_key own.proved) own.reason good.reason,
         subst (λ (b : BoxRange). IsGoodNode road cost one (first_part b own.split)) good.range mine.first,
         subst (λ (b : BoxRange). IsGoodNode road cost two (second_part b own.split)) good.range mine.second,
       )

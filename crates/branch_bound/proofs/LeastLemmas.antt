@@ -8,11 +8,10 @@ use Rattle.milp_builder.specs.declared.boxes.BoxRange.{BoxRange}
 use Rattle.cert_tree.specs.Soundness.{box_value, has_low}
 use Rattle.cert_tree.specs.LeastBounds.{IsAtMostLeaves, IsOfSomeLeaf, IsLeastOfLeaves}
 use Rattle.branch_bound.specs.Noted.{low_with, tree_of}
-use Rattle.branch_bound.specs.inside.Grown.{Grown, dead_leaf, whole_leaf, stopped_leaf, waiting_leaf, grown_fork, IsGoodNode, IsProvedOfBox, proved_key, nodes_note, reaches, cause_of, low_keys, noted_of, AreKeys}
+use Rattle.branch_bound.specs.inside.Grown.{Grown, dead_leaf, whole_leaf, stopped_leaf, waiting_leaf, grown_fork, IsGoodNode, IsProvedOfBox, proved_key, left_note, left_cause, reaches, cause_of, low_keys, noted_of, AreKeys}
 use Rattle.branch_bound.specs.inside.Least.{IsAtMostLow, IsOfLow, IsLeastKey, IsLeastFraction}
 use Rattle.branch_bound.specs.declared.work.Proved.{Proved}
 use Rattle.branch_bound.specs.declared.notes.NodeNote.TheVariants.{Closed}
-use Rattle.cert_tree.specs.declared.tree.Why.TheVariants.{Nodes as ForNodes}
 use Rattle.std.proofs.lemmas.List.{get_or_append_left, get_or-append-add, get_or_default}
 use Rattle.std.proofs.lemmas.Bool.{cases_lt}
 use Rattle.std.specs.List.{All}
@@ -38,7 +37,7 @@ at_most_leaves road cost bound (stopped_leaf proved note) box good h =
 at_most_leaves road cost bound (waiting_leaf leaf) box good h =
     let here = leaf_at_most road bound box leaf.proved good.own_bound h in
     at_either (λ n. IsAtMostLeaves road bound (tree_of n) box) (reaches cost leaf.proved)
-    (low_with leaf.proved.scale leaf.proved.mults None Closed) (low_with leaf.proved.scale leaf.proved.mults (Some ForNodes) (nodes_note leaf.optimum)) here here
+    (low_with leaf.proved.scale leaf.proved.mults None Closed) (low_with leaf.proved.scale leaf.proved.mults (Some (left_cause leaf.reason)) (left_note leaf.reason)) here here
 at_most_leaves road cost bound (grown_fork split note key first second) box good h =
     (at_most_leaves road cost bound first (first_part box split) good.3 h.0, at_most_leaves road cost bound second (second_part box split) good.4 h.1)
 
@@ -57,7 +56,7 @@ of_some_leaf road cost bound (stopped_leaf proved note) box good h =
 of_some_leaf road cost bound (waiting_leaf leaf) box good h =
     let here = leaf_is road bound box leaf.proved good.own_bound h in
     at_either (λ n. IsOfSomeLeaf road bound (tree_of n) box) (reaches cost leaf.proved)
-    (low_with leaf.proved.scale leaf.proved.mults None Closed) (low_with leaf.proved.scale leaf.proved.mults (Some ForNodes) (nodes_note leaf.optimum)) here here
+    (low_with leaf.proved.scale leaf.proved.mults None Closed) (low_with leaf.proved.scale leaf.proved.mults (Some (left_cause leaf.reason)) (left_note leaf.reason)) here here
 of_some_leaf road cost bound (grown_fork split note key first second) box good h =
     ⊎_elim
     (λ i. inl (of_some_leaf road cost bound first (first_part box split) good.3 i))

@@ -11,7 +11,6 @@ pub mod SearchLemmas
 pub mod SearchedLaw
 pub mod LeastLemmas
 pub mod ProvingLemmas
-pub mod ComparingLemmas
 pub mod SplittingLemmas
 pub mod SolvingLemmas
 pub mod EmptyLemmas
@@ -25,6 +24,7 @@ pub mod LowestKeys
 pub mod BudgetLemmas
 pub mod NextLemmas
 pub mod AskingLemmas
+pub mod FreeLemmas
 pub mod EndLemmas
 pub mod SpelledLaw
 pub mod TextLengths

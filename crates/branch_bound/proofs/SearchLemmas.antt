@@ -58,31 +58,31 @@ both_solved road best first second one two solved h k e f g =
     }
 
 -- a waiting leaf of a good tree is as it says, on a box that fits
-pub record IsWaitingBox (road : Road) (leaf : Waiting) : Type 0 where
-  pub waiting : IsWaiting road leaf.range leaf
+pub record IsWaitingBox (road : Road) (cost : Option Fraction) (leaf : Waiting) : Type 0 where
+  pub waiting : IsWaiting road cost leaf.range leaf
   pub fits : IsBoxOf road leaf.range
 
 pub waiting_in : (road : Road) (cost : Option Fraction) (grown : Grown) (box : BoxRange) (at : ℕ) (leaf : Waiting) → IsBoxOf road box
-    → IsGoodNode road cost grown box → waiting_at grown at ≡ Some leaf → IsWaitingBox road leaf
+    → IsGoodNode road cost grown box → waiting_at grown at ≡ Some leaf → IsWaitingBox road cost leaf
 waiting_in road cost (dead_leaf mults) box at leaf fits good e = cc
 waiting_in road cost (whole_leaf proved) box at leaf fits good e = cc
 waiting_in road cost (stopped_leaf proved note) box at leaf fits good e = cc
 waiting_in road cost (waiting_leaf own) box at leaf fits good e =
     let same : own ≡ leaf = cc in
-    let here : IsWaitingBox road own = record {
-      waiting = subst (λ (b : BoxRange). IsWaiting road b own) (sym good.range) good;
+    let here : IsWaitingBox road cost own = record {
+      waiting = subst (λ (b : BoxRange). IsWaiting road cost b own) (sym good.range) good;
       fits = subst (λ (b : BoxRange). IsBoxOf road b) (sym good.range) fits;
     } in
-    subst (λ (l : Waiting). IsWaitingBox road l) same here
+    subst (λ (l : Waiting). IsWaitingBox road cost l) same here
 waiting_in road cost (grown_fork split note key first second) box at leaf fits good e =
     let cover = found_parts_cover road box fits split (Some (first_part box split, second_part box split)) (good.0, refl) in
-    at_either (λ found. found ≡ Some leaf → IsWaitingBox road leaf) (nat_lt at (waiting_count first)) (waiting_at first at) (waiting_at second (at - waiting_count first))
+    at_either (λ found. found ≡ Some leaf → IsWaitingBox road cost leaf) (nat_lt at (waiting_count first)) (waiting_at first at) (waiting_at second (at - waiting_count first))
     (λ f. waiting_in road cost first (first_part box split) at leaf cover.first_fits good.3 f)
     (λ f. waiting_in road cost second (second_part box split) (at - waiting_count first) leaf cover.second_fits good.4 f)
     e
 
 pub waiting_box : (road : Road) (search : Search) (at : ℕ) (leaf : Waiting) → road_fault road ≡ None → IsSearch road search
-    → waiting_at (grown_of search.work) at ≡ Some leaf → IsWaitingBox road leaf
+    → waiting_at (grown_of search.work) at ≡ Some leaf → IsWaitingBox road (best_cost search.best) leaf
 waiting_box road search at leaf accepted h e =
     waiting_in road (best_cost search.best) (grown_of search.work) (root_box road) at leaf
     (root_box_fits road (IsAccepted-from_fault road accepted).well_formed) h.good e

@@ -1,6 +1,6 @@
 -- The leaf of a solved box, by the end of its simplex.
-use Rattle.std.proofs.Common.{◌≡◌, ℕ, ◌-◌, ◌≤◌, ◌<◌, ◌^◌, Option, Some, None, List, [], ◌∷◌, length, sym, ap, subst, arith, ⊎_elim, ◌∙◌}
-use Rattle.std.specs.Prelude.{ℤ, ◌*ℤ◌, unsigned_abs}
+use Rattle.std.proofs.Common.{◌≡◌, ℕ, ◌-◌, ◌≤◌, ◌<◌, ◌^◌, Option, Some, None, List, [], ◌∷◌, length, refl, sym, ap, subst, arith, inl, inr, ⊎_elim, ◌∙◌}
+use Rattle.std.specs.Prelude.{ℤ, ◌*ℤ◌, unsigned_abs, IfSome}
 use Rattle.std.specs.List.{All}
 use Rattle.std.proofs.lemmas.List.Elements.{All-weaker}
 use Rattle.algebra.proofs.ListsLemmas.{length-list_to}
@@ -9,7 +9,9 @@ use Rattle.numbers.specs.Fractions.{Fraction}
 use Rattle.programs.specs.Programs.{Program, row_count}
 use Rattle.road_types.specs.declared.road.Road.{Road}
 use Rattle.milp_builder.specs.BoxPrograms.{box_program}
+use Rattle.milp_builder.specs.Parts.{IsSplitOf}
 use Rattle.milp_builder.specs.declared.boxes.BoxRange.{BoxRange}
+use Rattle.milp_builder.specs.declared.boxes.Split.{Split}
 use Rattle.tableau.specs.Programs.{Given}
 use Rattle.tableau.specs.Tableaux.{Tableau}
 use Rattle.tableau.specs.Ends.{multiplier, ray}
@@ -30,15 +32,17 @@ use Rattle.best_first.proofs.KeyLemmas.{at_most_itself}
 use Rattle.branch_bound.specs.Optima.{exchange_budget}
 use Rattle.branch_bound.specs.NoteKeys.{IsNarrowKey}
 use Rattle.branch_bound.specs.inside.Better.{IsNoDearer, IsBetter}
-use Rattle.branch_bound.specs.inside.Grown.{Grown, dead_leaf, stopped_leaf, grown_of, IsGrownLeaf, IsGoodNode, IsProvedOfBox}
+use Rattle.branch_bound.specs.inside.Grown.{Grown, dead_leaf, stopped_leaf, waiting_leaf, grown_of, IsGrownLeaf, IsGoodNode, IsProvedOfBox, IsWaiting}
 use Rattle.branch_bound.specs.inside.Proving.{IsProvedOn}
 use Rattle.branch_bound.specs.inside.Searches.{best_cost, IsBest, IsSolvedBox}
-use Rattle.branch_bound.specs.inside.Solving.{IsLeafOfBox, AreProving, IsStopWith, IsDeadLeaf, IsEmptyLeaf}
+use Rattle.branch_bound.specs.inside.Solving.{IsLeafOfBox, AreProving, IsStopOf, IsStopWith, IsDeadLeaf, IsEmptyLeaf}
 use Rattle.branch_bound.specs.declared.notes.NodeNote.{NodeNote}
 use Rattle.branch_bound.specs.declared.notes.NodeNote.TheVariants.{Pivots, Wide, Limit}
 use Rattle.branch_bound.specs.declared.best.Best.{Best}
 use Rattle.branch_bound.specs.inside.Solved.{Solved}
 use Rattle.branch_bound.specs.declared.work.Proved.{Proved}
+use Rattle.branch_bound.specs.declared.work.Waiting.{Waiting}
+use Rattle.branch_bound.specs.declared.work.Reason.TheVariants.{Stop}
 use Rattle.branch_bound.specs.declared.work.Work.{Work}
 
 -- ---- the end of the simplex in either type
@@ -99,15 +103,36 @@ leaf_from road cost box leaf grown e is_leaf good = record {
 }
 
 pub stop_good : (road : Road) (cost : Option Fraction) (box : BoxRange) (scale : ℤ) (mults : List ℤ) (note : NodeNote) (proved : Proved) (leaf : Work)
-    → IsProvedOn (box_program road box) scale mults proved → grown_of leaf ≡ stopped_leaf proved note
+    → IsProvedOn (box_program road box) scale mults proved → IsStopOf road box proved note (grown_of leaf)
     → IsStopWith road cost (box_program road box) note scale mults → IsLeafOfBox road cost box leaf
-stop_good road cost box scale mults note proved leaf p e h =
+stop_good road cost box scale mults note proved leaf p s h =
     let t = h.0 in
     let key : ℤ × ℤ = (proved.value, proved.scale) in
     let narrow = subst (λ (s : ℤ). IsNarrowKey (box_program road box) s mults key) h.1.1.0 p.narrow_key in
     let own = subst (λ (m : List ℤ). IsNarrowKey (box_program road box) (scale_of t) m key) h.1.1.1 narrow in
-    leaf_from road cost box leaf (stopped_leaf proved note) e tt
-    (proved_is road box scale mults proved p, (t, (h.1.0, (key, (own, at_most_itself key)))))
+    let of_box = proved_is road box scale mults proved p in
+    ⊎_elim
+    (λ e. leaf_from road cost box leaf (stopped_leaf proved note) e tt (of_box, (t, (h.1.0, (key, (own, at_most_itself key))))))
+    (λ w.
+    let waits : Waiting = record { range = box; split = w.0; reason = Stop note; proved = proved } in
+    let good : IsWaiting road cost box waits = record {
+      range = refl;
+      splits = w.1.0;
+      reason = record { tableau = t; stop = h.1.0; narrow_key = own };
+      own_bound = of_box;
+    } in
+    leaf_from road cost box leaf (waiting_leaf waits) w.1.1 tt good)
+    s
+
+pub stop_waits : (box : BoxRange) (proved : Proved) (note : NodeNote) (found : Option Split) (split : Split) (leaf : Grown) → found ≡ Some split
+    → leaf ≡ waiting_leaf (record { range = box; split = split; reason = Stop note; proved = proved })
+    → (road : Road) → IfSome found (λ s. IsSplitOf road box s) → IsStopOf road box proved note leaf
+stop_waits box proved note found split leaf f e road h =
+    inr (split, (subst (λ (o : Option Split). IfSome o (λ s. IsSplitOf road box s)) f h, e))
+
+pub stop_stays : (box : BoxRange) (proved : Proved) (note : NodeNote) (found : Option Split) (leaf : Grown) → leaf ≡ stopped_leaf proved note
+    → (road : Road) → IfSome found (λ s. IsSplitOf road box s) → IsStopOf road box proved note leaf
+stop_stays box proved note found leaf e road h = inl e
 
 pub dead_good : (road : Road) (cost : Option Fraction) (box : BoxRange) (leaf : Work) → IsDeadLeaf (box_program road box) leaf → IsLeafOfBox road cost box leaf
 dead_good road cost box leaf h =
@@ -115,7 +140,7 @@ dead_good road cost box leaf h =
     (record { mults_sound = record { on_rows = h.on_rows; right_signs = h.right_signs }; above_zero = h.above_zero })
 
 pub empty_good : (road : Road) (cost : Option Fraction) (box : BoxRange) (trail : List Exchange) (scale : ℤ) (mults : List ℤ) (leaf : Work)
-    → IsEmptyLeaf road (box_program road box) trail scale mults leaf → IsLeafOfBox road cost box leaf
+    → IsEmptyLeaf road box (box_program road box) trail scale mults leaf → IsLeafOfBox road cost box leaf
 empty_good road cost box trail scale mults leaf h =
     ⊎_elim
     (λ d. dead_good road cost box leaf d)

@@ -143,7 +143,7 @@ module _ (road : Road) (box : BoxRange) (optimum : Optimum) (proved : Proved) (f
       ⊎_elim
       (λ w. leaf_from road (Some h.best.cost) box solved.leaf (whole_leaf proved) w.1 tt
       (proved_is road box optimum.scale optimum.mults proved o.proved_on, bound_meets w.0))
-      (λ s. stop_good road (Some h.best.cost) box optimum.scale optimum.mults (Limit optimum.trail s.0) proved solved.leaf o.proved_on s.1.1 (stop s.0 s.1.0))
+      (λ s. stop_good road (Some h.best.cost) box optimum.scale optimum.mults (Limit optimum.trail s.0) proved solved.leaf o.proved_on (inl s.1.1) (stop s.0 s.1.0))
       h.leaf_is
 
   pub whole_solved : IsSolvedBox road old box solved

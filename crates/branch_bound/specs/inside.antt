@@ -5,8 +5,8 @@ pub mod Solved
 pub mod Searches
 pub mod Proving
 pub mod Splitting
+pub mod FreeSplits
 pub mod Solving
 pub mod Least
 pub mod Depths
-pub mod Comparing
 pub mod Asking

@@ -5,13 +5,14 @@
 mod asking;
 mod best;
 mod finding;
+mod free_splits;
 mod growing;
 mod notes;
 mod proving;
+mod scores;
 mod settling;
 mod solving;
 mod splitting;
-mod volumes;
 mod walks;
 mod work;
 

@@ -3,11 +3,11 @@ ghost use Rattle.std.specs.Prelude.{◌≡◌, ◌++◌, [], ◌∷◌, None, So
 ghost use Rattle.best_first.specs.Keys.{IsKey};
 ghost use Rattle.cert_tree.specs.Trees.{low, fork, box_tree_of};
 ghost use Rattle.branch_bound.specs.Noted.{tree_of, notes_of};
-ghost use Rattle.branch_bound.specs.inside.Grown.{grown_of, AreKeys, IsCostKey, proved_key, low_keys, reaches, cause_of, closed_or, noted_of, nodes_note};
+ghost use Rattle.branch_bound.specs.inside.Grown.{grown_of, AreKeys, IsCostKey, proved_key, low_keys, reaches, cause_of, left_cause, left_note, closed_or, noted_of};
 
 use crate::notes::NodeNote;
-use crate::walks::nodes_note;
-use crate::work::{Proved, Waiting, Work};
+use crate::walks::left_note;
+use crate::work::{Proved, Reason, Waiting, Work};
 use best_first::is_at_most;
 use cert_tree::{Tree, Why};
 use milp_builder::Split;
@@ -77,15 +77,12 @@ fn settle_waiting(
 ) -> Result<Tree, AllocError>
     requires key { IsKey (proved_key leaf.proved) }
     requires cost { IsCostKey cost.now }
-    ensures tree { IfOk result (λ tree. box_tree_of tree ≡ tree_of (closed_or cost.now leaf.proved Why.Nodes (nodes_note leaf.optimum))) }
-    ensures notes { OnOk result (notes.new.items ≡ notes.old.items ++ notes_of (closed_or cost.now leaf.proved Why.Nodes (nodes_note leaf.optimum))) }
+    ensures tree { IfOk result (λ tree. box_tree_of tree ≡ tree_of (closed_or cost.now leaf.proved (left_cause leaf.reason) (left_note leaf.reason))) }
+    ensures notes { OnOk result (notes.new.items ≡ notes.old.items ++ notes_of (closed_or cost.now leaf.proved (left_cause leaf.reason) (left_note leaf.reason))) }
 {
-    let Waiting {
-        optimum,
-        proved,
-        ..
-    } = leaf;
-    close_or_leave(proved, cost, Why::Nodes, nodes_note(optimum), notes)
+    let Waiting { reason, proved, .. } = leaf;
+    let cause = left_cause(&reason);
+    close_or_leave(proved, cost, cause, left_note(reason), notes)
 }
 
 /// A leaf that is closed where its bound reaches the cost, and else left open with its cause.
@@ -166,6 +163,16 @@ fn cause_of(note: &NodeNote) -> Why
     match note {
         NodeNote::Pivots { .. } => Why::Pivots,
         _ => Why::Width,
+    }
+}
+
+/// The cause of a leaf that is left open, by the reason for which it waits.
+fn left_cause(reason: &Reason) -> Why
+    ensures { result ≡ left_cause reason.now }
+{
+    match reason {
+        Reason::Asked { .. } => Why::Nodes,
+        Reason::Stop { note } => cause_of(note),
     }
 }
 

@@ -1,5 +1,5 @@
 // The linear program of a box, and the leaf that its end gives.
-ghost use Rattle.std.specs.Prelude.{◌≡◌, ◌<◌, ◌≤◌, ◌^◌, ◌-◌, ◌≤ℤ◌, None, IfOk, pos, unsigned_abs};
+ghost use Rattle.std.specs.Prelude.{◌≡◌, ◌<◌, ◌≤◌, ◌^◌, ◌-◌, ◌≤ℤ◌, None, IfOk, IfSome, pos, unsigned_abs};
 ghost use Rattle.std.specs.Int.{int_max};
 ghost use Rattle.std.specs.List.{All};
 ghost use Rattle.algebra.specs.Scale.{IsScale};
@@ -7,9 +7,11 @@ ghost use Rattle.numbers.specs.Fractions.{IsLowest, HasValue};
 ghost use Rattle.programs.specs.Points.{IsPoint};
 ghost use Rattle.safe_bounds.specs.Values.{AreMultipliers};
 ghost use Rattle.road_types.specs.Faults.{road_fault};
+ghost use Rattle.road_types.specs.declared.road.Road.{Road};
 ghost use Rattle.plan_rules.specs.Rules.{IsAdmissible};
 ghost use Rattle.plan_rules.specs.Costs.{cost_of};
 ghost use Rattle.milp_builder.specs.Boxes.{IsBoxOf};
+ghost use Rattle.milp_builder.specs.Parts.{IsSplitOf};
 ghost use Rattle.milp_builder.specs.BoxPrograms.{box_program};
 ghost use Rattle.best_first.specs.Keys.{IsKey};
 ghost use Rattle.simplex.specs.Ends.{IsEnd, IsDead, IsOptimum, HasNumbersWithin, AreWithin};
@@ -18,17 +20,18 @@ ghost use Rattle.branch_bound.specs.inside.Asking.{AsksForNothing};
 ghost use Rattle.branch_bound.specs.inside.Grown.{grown_of, dead_leaf, whole_leaf, waiting_leaf, stopped_leaf, IsCostKey};
 ghost use Rattle.branch_bound.specs.inside.Proving.{IsProvedOn};
 ghost use Rattle.branch_bound.specs.inside.Searches.{best_cost, IsBest, IsSolvedBox};
-ghost use Rattle.branch_bound.specs.inside.Solving.{AreProving, IsStoppedLeaf, IsEmptyLeaf, AreDeadMults, IsOptimumOf, IsWholeLeaf, IsCheaper, IsPricedBest};
+ghost use Rattle.branch_bound.specs.inside.Solving.{AreProving, IsStopOf, IsStoppedLeaf, IsEmptyLeaf, AreDeadMults, IsOptimumOf, IsWholeLeaf, IsCheaper, IsPricedBest};
 ghost use Rattle.branch_bound.specs.declared.notes.NodeNote.TheVariants.{Limit};
 
 use crate::asking::asked_split;
 use crate::best::Best;
+use crate::free_splits::{Rough, free_split};
 use crate::notes::NodeNote;
 use crate::proving::{greatest_magnitude, narrowed, past_limit, prove, value_on, written};
-use crate::work::{Optimum, Proved, Waiting, Work};
+use crate::work::{Optimum, Proved, Reason, Waiting, Work};
 use algebra::GREATEST_SCALE;
 use best_first::is_at_most;
-use milp_builder::{BoxRange, Split, build, plan_of};
+use milp_builder::{BoxRange, GREATEST_COMPARABLE, Split, build, plan_of};
 use numbers::{Frac, W64, W128};
 use plan_rules::{Plan, Verdict, judge};
 use programs::Milp;
@@ -36,6 +39,18 @@ use road_types::{Listed, Road};
 use simplex::{Lp, LpEnd, solve_either};
 use std::alloc::{AllocError, Global};
 use tableau::Exchange;
+
+/// The parts of a unit in which a stop tells about what each column is.
+const ROUGH_UNIT: i128 = 1_024;
+
+/// A stop of the simplex: its note, a scale and a multiplier for each row, and about what each column is.
+#[derive(Drop)]
+pub struct Stop {
+    pub note: NodeNote,
+    pub scale: i128,
+    pub mults: Vec<i128>,
+    pub rough: Vec<i128>,
+}
 
 /// Solves a box: its leaf. A plan that is found and cheaper is the best one then.
 pub(crate) fn solve_box(
@@ -115,18 +130,23 @@ fn solve_end(
             ray,
             scale,
             mults,
-        } => empty_leaf(alloc, road, milp, trail, ray, scale, mults),
+        } => empty_leaf(alloc, road, range, milp, trail, ray, scale, mults),
         LpEnd::Pivots {
             trail,
             scale,
             mults,
             rough,
         } => {
-            drop(rough);
             let note = NodeNote::Pivots {
                 trail: Listed::new(trail),
             };
-            stopped_leaf(alloc, milp, note, scale, mults)
+            let stop = Stop {
+                note,
+                scale,
+                mults,
+                rough,
+            };
+            stopped_leaf(alloc, road, range, milp, stop)
         }
         LpEnd::Wide {
             trail,
@@ -135,47 +155,75 @@ fn solve_end(
             mults,
             rough,
         } => {
-            drop(rough);
             let note = NodeNote::Wide {
                 trail: Listed::new(trail),
                 op,
             };
-            stopped_leaf(alloc, milp, note, scale, mults)
+            let stop = Stop {
+                note,
+                scale,
+                mults,
+                rough,
+            };
+            stopped_leaf(alloc, road, range, milp, stop)
         }
     }
 }
 
-/// A leaf whose simplex stopped, with what its multipliers prove.
+/// The leaf of a box whose simplex stopped, with what its multipliers prove.
 fn stopped_leaf(
     alloc: Global,
+    road: &Road,
+    range: BoxRange,
     milp: &Milp,
-    note: NodeNote,
-    scale: i128,
-    mults: Vec<i128>,
+    stop: Stop,
 ) -> Result<Work, AllocError>
-    requires { AreProving milp.now scale mults.items }
-    ensures { IfOk result (λ leaf. IsStoppedLeaf milp.now scale mults.items note leaf) }
+    requires accepted { road_fault road.now ≡ None }
+    requires fits { IsBoxOf road.now range }
+    requires proving { AreProving milp.now stop.scale stop.mults.items }
+    ensures { IfOk result (λ leaf. IsStoppedLeaf road.now range milp.now stop.scale stop.mults.items stop.note leaf) }
 {
-    let proved = prove(alloc, milp, scale, mults)?;
-    Ok(Work::Stopped { proved, note })
+    let split = split_at(road, &range, ROUGH_UNIT, stop.rough.as_slice());
+    let proved = prove(alloc, milp, stop.scale, stop.mults)?;
+    Ok(stop_of(split, range, proved, stop.note))
+}
+
+/// The leaf of a stop: it waits to be split where its box has a split.
+#[tactic(auto, using(crate::proofs::SolvingLemmas::stop_waits, crate::proofs::SolvingLemmas::stop_stays))]
+fn stop_of(split: Option<Split>, range: BoxRange, proved: Proved, note: NodeNote) -> Work
+    ensures { (road : Road) → IfSome split (λ s. IsSplitOf road range s) → IsStopOf road range proved note (grown_of result) }
+{
+    match split {
+        Some(split) => waiting_leaf(range, split, Reason::Stop { note }, proved),
+        None => ended_leaf(proved, note),
+    }
+}
+
+/// A leaf that stays as it is, with its note.
+fn ended_leaf(proved: Proved, note: NodeNote) -> Work
+    ensures { grown_of result ≡ stopped_leaf proved note }
+{
+    Work::Stopped { proved, note }
 }
 
 /// The leaf of an empty box: its narrowed ray, or, where that no longer proves it empty, what its multipliers prove.
-
 #[tactic(auto, using(crate::proofs::EndLemmas::dead_multipliers, crate::proofs::EndLemmas::dead_proving, crate::proofs::EndLemmas::empty_dead, crate::proofs::EndLemmas::empty_limit, crate::proofs::SolvingLemmas::below_range))]
 fn empty_leaf(
     alloc: Global,
     road: &Road,
+    range: BoxRange,
     milp: &Milp,
     trail: Vec<Exchange>,
     ray: Vec<i128>,
     scale: i128,
     mults: Vec<i128>,
 ) -> Result<Work, AllocError>
+    requires accepted { road_fault road.now ≡ None }
+    requires fits { IsBoxOf road.now range }
     requires dead { IsDead milp.now (exchange_budget road.now) trail.items ray.items scale mults.items }
     requires ray { AreWithin (2 ^ 127 - 1) ray.items }
     requires mults { AreWithin (2 ^ 127 - 1) mults.items }
-    ensures { IfOk result (λ leaf. IsEmptyLeaf road.now milp.now trail.items scale mults.items leaf) }
+    ensures { IfOk result (λ leaf. IsEmptyLeaf road.now range milp.now trail.items scale mults.items leaf) }
 {
     let greatest = greatest_magnitude(ray.as_slice());
     let ray = narrowed(from_one(greatest), ray);
@@ -186,7 +234,13 @@ fn empty_leaf(
         trail: Listed::new(trail),
         value: greatest,
     };
-    stopped_leaf(alloc, milp, note, scale, mults)
+    let stop = Stop {
+        note,
+        scale,
+        mults,
+        rough: Vec::new(alloc),
+    };
+    stopped_leaf(alloc, road, range, milp, stop)
 }
 
 /// Multipliers as they are written down, where their dead value is above 0.
@@ -270,11 +324,10 @@ fn leaf_of_optimum(
     ensures { IfOk result (λ leaf. IsSolvedBox road.now best.old range (record { leaf = leaf; best = best.new })) }
 {
     if let Some(split) = asked_split(road, &range, optimum.den, optimum.point.as_slice()) {
-        return Ok(waiting_leaf(range, split, optimum, proved));
+        return Ok(waiting_leaf(range, split, Reason::Asked { optimum }, proved));
     }
     if optimum.den > GREATEST_SCALE {
-        let den = optimum.den;
-        return Ok(limit_leaf(optimum, proved, den));
+        return Ok(past_plans(road, range, optimum, proved));
     }
     match plan_found(alloc, road, &range, optimum.den, optimum.point.as_slice()) {
         Ok(found) => Ok(whole_leaf(optimum, proved, found, best)),
@@ -285,15 +338,44 @@ fn leaf_of_optimum(
     }
 }
 
+/// The leaf of an optimum with whole removals whose denominator is past those of plans: a stop where volumes can't be compared over
+/// it, and else a plan that no certificate holds.
+fn past_plans(road: &Road, range: BoxRange, optimum: Optimum, proved: Proved) -> Work
+    requires accepted { road_fault road.now ≡ None }
+    requires fits { IsBoxOf road.now range }
+    ensures { IsStopOf road.now range proved (Limit optimum.trail optimum.den) (grown_of result) }
+{
+    let den = optimum.den;
+    if den > GREATEST_COMPARABLE {
+        let split = split_at(road, &range, den, optimum.point.as_slice());
+        return stop_of(split, range, proved, limit_note(optimum, den));
+    }
+    limit_leaf(optimum, proved, den)
+}
+
+/// A split of a box, chosen by about where a point stands.
+fn split_at(road: &Road, range: &BoxRange, den: i128, point: &[i128]) -> Option<Split>
+    requires accepted { road_fault road.now ≡ None }
+    requires fits { IsBoxOf road.now range.now }
+    requires den { pos 1 ≤ℤ den }
+    ensures { IfSome result (λ split. IsSplitOf road.now range.now split) }
+{
+    let rough = Rough {
+        unit: den,
+        numbers: point,
+    };
+    free_split(road, range, rough)
+}
+
 /// A leaf that waits to be split.
-fn waiting_leaf(range: BoxRange, split: Split, optimum: Optimum, proved: Proved) -> Work
-    ensures { grown_of result ≡ waiting_leaf (record { range = range; split = split; optimum = optimum; proved = proved }) }
+fn waiting_leaf(range: BoxRange, split: Split, reason: Reason, proved: Proved) -> Work
+    ensures { grown_of result ≡ waiting_leaf (record { range = range; split = split; reason = reason; proved = proved }) }
 {
     Work::Waiting {
         leaf: Waiting {
             range,
             split,
-            optimum,
+            reason,
             proved,
         },
     }
@@ -317,12 +399,16 @@ fn done_leaf(proved: Proved) -> Work
 fn limit_leaf(optimum: Optimum, proved: Proved, value: i128) -> Work
     ensures { grown_of result ≡ stopped_leaf proved (Limit optimum.trail value) }
 {
-    Work::Stopped {
-        proved,
-        note: NodeNote::Limit {
-            trail: optimum.trail,
-            value,
-        },
+    ended_leaf(proved, limit_note(optimum, value))
+}
+
+/// The note of an optimum with a number past the limit.
+fn limit_note(optimum: Optimum, value: i128) -> NodeNote
+    ensures { result ≡ Limit optimum.trail value }
+{
+    NodeNote::Limit {
+        trail: optimum.trail,
+        value,
     }
 }
 

@@ -1,10 +1,10 @@
 // Walks over the tree while it grows.
 ghost use Rattle.std.specs.Prelude.{◌≡◌, ◌+◌, ◌<◌, ◌^◌, ◌++◌, Some, OnOk};
 ghost use Rattle.best_first.specs.inside.Covers.{open_keys};
-ghost use Rattle.branch_bound.specs.inside.Grown.{grown_of, keys_of, waiting_count, waiting_at, parted_at, proved_key, grown_fork, fractional_note, nodes_note};
+ghost use Rattle.branch_bound.specs.inside.Grown.{grown_of, keys_of, waiting_count, waiting_at, parted_at, proved_key, grown_fork, split_note, left_note, fractional_note, nodes_note};
 
 use crate::notes::NodeNote;
-use crate::work::{Optimum, Waiting, Work};
+use crate::work::{Optimum, Reason, Waiting, Work};
 use node_box::NodeBox;
 use road_types::Listed;
 use std::alloc::{AllocError, Global};
@@ -60,8 +60,28 @@ pub(crate) fn waiting_at(work: &Work, at: usize) -> &Waiting
     }
 }
 
+/// The note of a leaf's split, by the reason for which it waits.
+fn split_note(reason: Reason) -> NodeNote
+    ensures { result ≡ split_note reason }
+{
+    match reason {
+        Reason::Asked { optimum } => fractional_note(optimum),
+        Reason::Stop { note } => note,
+    }
+}
+
+/// The note of a leaf that is left open, by the reason for which it waits.
+pub(crate) fn left_note(reason: Reason) -> NodeNote
+    ensures { result ≡ left_note reason }
+{
+    match reason {
+        Reason::Asked { optimum } => nodes_note(optimum),
+        Reason::Stop { note } => note,
+    }
+}
+
 /// The note of a split for which an optimum asks.
-pub(crate) fn fractional_note(optimum: Optimum) -> NodeNote
+fn fractional_note(optimum: Optimum) -> NodeNote
     ensures { result ≡ fractional_note optimum }
 {
     NodeNote::Fractional {
@@ -74,7 +94,7 @@ pub(crate) fn fractional_note(optimum: Optimum) -> NodeNote
 }
 
 /// The note of a leaf that is left open for want of nodes.
-pub(crate) fn nodes_note(optimum: Optimum) -> NodeNote
+fn nodes_note(optimum: Optimum) -> NodeNote
     ensures { result ≡ nodes_note optimum }
 {
     NodeNote::Nodes {
@@ -144,12 +164,12 @@ fn part_at(alloc: Global, work: Work, at: usize, one: NodeBox<Work>, two: NodeBo
 
 /// A waiting leaf, split into two others.
 fn parted(leaf: Waiting, one: NodeBox<Work>, two: NodeBox<Work>) -> Work
-    ensures { grown_of result ≡ grown_fork leaf.split (fractional_note leaf.optimum) (proved_key leaf.proved) (grown_of one) (grown_of two) }
+    ensures { grown_of result ≡ grown_fork leaf.split (split_note leaf.reason) (proved_key leaf.proved) (grown_of one) (grown_of two) }
 {
     Work::Parted {
         split: leaf.split,
         key: (leaf.proved.value, leaf.proved.scale),
-        note: fractional_note(leaf.optimum),
+        note: split_note(leaf.reason),
         first: one,
         second: two,
     }

@@ -26,12 +26,21 @@ pub struct Optimum {
     pub mults: Listed<i128>,
 }
 
-/// A leaf that waits to be split: its box, the split for which its optimum asks, and what is proved of it.
+/// Why a leaf waits to be split.
+#[derive(Drop)]
+pub enum Reason {
+    /// Its optimum asks for the split.
+    Asked { optimum: Optimum },
+    /// Its simplex stopped without an optimum of use, as the note says.
+    Stop { note: NodeNote },
+}
+
+/// A leaf that waits to be split: its box, a split of it, why it waits, and what is proved of it.
 #[derive(Drop)]
 pub struct Waiting {
     pub range: BoxRange,
     pub split: Split,
-    pub optimum: Optimum,
+    pub reason: Reason,
     pub proved: Proved,
 }
 
@@ -46,7 +55,8 @@ pub enum Work {
     Whole {
         proved: Proved,
     },
-    /// A leaf whose simplex stopped without an optimum of use.
+    /// A leaf that stays as it is, though its bound doesn't reach the cost of the best plan: its simplex stopped and its box has no
+    /// split, or its optimum is a plan with a number past the limit.
     Stopped {
         proved: Proved,
         note: NodeNote,

@@ -2,6 +2,7 @@
 use Rattle.std.specs.Prelude.{◌≡◌, ℕ, ◌+◌, ◌-◌, nat_lt, int_le, Bool, true, false, if◌then◌else◌, List, [], ◌∷◌, ◌++◌, Option, Some, None, ℤ, pos, ◌*ℤ◌, ◌^◌, ◌≤◌, ◌⊎◌, ◌<ℤ◌, unsigned_abs}
 use Rattle.algebra.specs.Scale.{IsScale}
 use Rattle.numbers.specs.Fractions.{Fraction}
+use Rattle.programs.specs.Programs.{Program}
 use Rattle.road_types.specs.declared.road.Road.{Road}
 use Rattle.milp_builder.specs.BoxPrograms.{box_program}
 use Rattle.milp_builder.specs.Parts.{IsSplitOf, first_part, second_part}
@@ -12,8 +13,11 @@ use Rattle.cert_tree.specs.declared.tree.Why.{Why}
 use Rattle.cert_tree.specs.declared.tree.Why.TheVariants.{Nodes as ForNodes, Pivots as ForPivots, Width as ForWidth}
 use Rattle.best_first.specs.Keys.{IsKey}
 use Rattle.best_first.specs.KeyTrees.{KeyTree, ended, open_leaf, parted}
+use Rattle.tableau.specs.Tableaux.{Tableau}
+use Rattle.tableau.specs.OwnNumbers.{scale_of, multipliers_of}
 use Rattle.simplex.specs.Ends.{IsOptimum}
 use Rattle.branch_bound.specs.Optima.{exchange_budget, AsksFor}
+use Rattle.branch_bound.specs.Stops.{IsStop}
 use Rattle.branch_bound.specs.NoteKeys.{IsNarrowKey, IsKeyOf}
 use Rattle.branch_bound.specs.Noted.{Noted, low_with, dead_with, fork_with, IsShownStop, IsShownSplit}
 use Rattle.branch_bound.specs.declared.notes.NodeNote.{NodeNote}
@@ -24,6 +28,8 @@ use Rattle.branch_bound.specs.declared.work.Work.TheFolds.{fold-Work}
 use Rattle.branch_bound.specs.declared.work.Proved.{Proved}
 use Rattle.branch_bound.specs.declared.work.Optimum.{Optimum}
 use Rattle.branch_bound.specs.declared.work.Waiting.{Waiting}
+use Rattle.branch_bound.specs.declared.work.Reason.{Reason}
+use Rattle.branch_bound.specs.declared.work.Reason.TheVariants.{Asked, Stop}
 
 pub data Grown : Type 0 where
   dead_leaf : List (ℕ × ℤ) → Grown
@@ -65,6 +71,16 @@ fractional_note o = Fractional o.trail o.den o.point o.scale o.mults
 abbrev pub nodes_note : Optimum → NodeNote
 nodes_note o = Nodes o.trail o.den o.point o.scale o.mults
 
+-- the note of a leaf's split, by the reason for which it waits
+abbrev pub split_note : Reason → NodeNote
+split_note (Asked o) = fractional_note o
+split_note (Stop note) = note
+
+-- the note of a leaf that is left open, by the reason for which it waits
+abbrev pub left_note : Reason → NodeNote
+left_note (Asked o) = nodes_note o
+left_note (Stop note) = note
+
 -- scale, multipliers and value belong to the box
 pub record IsProvedOfBox (road : Road) (box : BoxRange) (proved : Proved) : Type 0 where
   pub scale_within : IsScale proved.scale
@@ -72,13 +88,28 @@ pub record IsProvedOfBox (road : Road) (box : BoxRange) (proved : Proved) : Type
   pub value_is : proved.value ≡ box_value road box proved.scale proved.mults
   pub value_within : unsigned_abs proved.value ≤ 2 ^ 86
 
--- the leaf is of this box, its optimum asks for its split, which can be made, and what is proved is the optimum's key
-pub record IsWaiting (road : Road) (box : BoxRange) (leaf : Waiting) : Type 0 where
+-- the program's optimum asks for the split, and the key is the optimum's
+pub record IsAskedReason (road : Road) (program : Program) (split : Split) (key : ℤ × ℤ) (o : Optimum) : Type 0 where
+  pub optimum : IsOptimum program (exchange_budget road) o.trail o.den o.point o.scale o.mults
+  pub asks : AsksFor road o.den o.point split
+  pub narrow_key : IsNarrowKey program o.scale o.mults key
+
+-- the simplex stopped at a tableau as the note says, and the key is that of the tableau
+pub record IsStopReason (road : Road) (cost : Option Fraction) (program : Program) (key : ℤ × ℤ) (note : NodeNote) : Type 0 where
+  pub tableau : Tableau
+  pub stop : IsStop road cost program note tableau
+  pub narrow_key : IsNarrowKey program (scale_of tableau) (multipliers_of tableau) key
+
+-- why a leaf waits to be split so: its optimum asks for the split, or its simplex stopped
+abbrev pub IsReason : Road → Option Fraction → Program → Split → ℤ × ℤ → Reason → Type 0
+IsReason road cost program split key (Asked o) = IsAskedReason road program split key o
+IsReason road cost program split key (Stop note) = IsStopReason road cost program key note
+
+-- the leaf is of this box, its split can be made, its reason is as it says, and what is proved is the reason's key
+pub record IsWaiting (road : Road) (cost : Option Fraction) (box : BoxRange) (leaf : Waiting) : Type 0 where
   pub range : leaf.range ≡ box
   pub splits : IsSplitOf road box leaf.split
-  pub asks : AsksFor road leaf.optimum.den leaf.optimum.point leaf.split
-  pub optimum : IsOptimum (box_program road box) (exchange_budget road) leaf.optimum.trail leaf.optimum.den leaf.optimum.point leaf.optimum.scale leaf.optimum.mults
-  pub narrow_key : IsNarrowKey (box_program road box) leaf.optimum.scale leaf.optimum.mults (proved_key leaf.proved)
+  pub reason : IsReason road cost (box_program road box) leaf.split (proved_key leaf.proved) leaf.reason
   pub own_bound : IsProvedOfBox road box leaf.proved
 
 -- each node is what it says, where the best plan has this cost, or there is none
@@ -86,7 +117,7 @@ abbrev pub IsGoodNode : Road → Option Fraction → Grown → BoxRange → Type
 IsGoodNode road cost (dead_leaf mults) box = IsSoundDead road box mults
 IsGoodNode road cost (whole_leaf proved) box = IsProvedOfBox road box proved × IsAtLeastBound proved.value proved.scale cost
 IsGoodNode road cost (stopped_leaf proved note) box = IsProvedOfBox road box proved × IsShownStop road cost (box_program road box) note (proved_key proved)
-IsGoodNode road cost (waiting_leaf leaf) box = IsWaiting road box leaf
+IsGoodNode road cost (waiting_leaf leaf) box = IsWaiting road cost box leaf
 IsGoodNode road cost (grown_fork split note key first second) box =
     IsSplitOf road box split
     × IsShownSplit road cost (box_program road box) split note
@@ -125,6 +156,11 @@ abbrev pub cause_of : NodeNote → Why
 cause_of (Pivots trail) = ForPivots
 cause_of note = ForWidth
 
+-- the cause of a leaf that is left open, by the reason for which it waits
+abbrev pub left_cause : Reason → Why
+left_cause (Asked o) = ForNodes
+left_cause (Stop note) = cause_of note
+
 -- a leaf that is closed where its bound reaches the cost, and else left open
 abbrev pub closed_or : Option Fraction → Proved → Why → NodeNote → Noted
 closed_or cost proved cause note =
@@ -135,7 +171,7 @@ abbrev pub noted_of : Option Fraction → Grown → Noted
 noted_of cost (dead_leaf mults) = dead_with mults DeadNote
 noted_of cost (whole_leaf proved) = low_with proved.scale proved.mults None Closed
 noted_of cost (stopped_leaf proved note) = closed_or cost proved (cause_of note) note
-noted_of cost (waiting_leaf leaf) = closed_or cost leaf.proved ForNodes (nodes_note leaf.optimum)
+noted_of cost (waiting_leaf leaf) = closed_or cost leaf.proved (left_cause leaf.reason) (left_note leaf.reason)
 noted_of cost (grown_fork split note key first second) = fork_with split note (noted_of cost first) (noted_of cost second)
 
 -- the waiting leaves, in preorder: how many, and the one with a number counted from 0
@@ -153,7 +189,7 @@ waiting_at leaf at = None
 -- the tree with that leaf split into two others
 abbrev pub parted_at : Grown → ℕ → Grown → Grown → Grown
 parted_at (waiting_leaf leaf) at one two =
-    grown_fork leaf.split (fractional_note leaf.optimum) (proved_key leaf.proved) one two
+    grown_fork leaf.split (split_note leaf.reason) (proved_key leaf.proved) one two
 parted_at (grown_fork split note key first second) at one two =
     if nat_lt at (waiting_count first)
     then grown_fork split note key (parted_at first at one two) second

@@ -11,20 +11,23 @@ use Rattle.cert_tree.specs.Soundness.{told_value}
 use Rattle.tableau.specs.declared.exchange.Exchange.{Exchange}
 use Rattle.road_types.specs.declared.road.Road.{Road}
 use Rattle.milp_builder.specs.BoxPrograms.{box_program}
+use Rattle.milp_builder.specs.Parts.{IsSplitOf}
 use Rattle.milp_builder.specs.declared.boxes.BoxRange.{BoxRange}
+use Rattle.milp_builder.specs.declared.boxes.Split.{Split}
 use Rattle.tableau.specs.Tableaux.{Tableau}
 use Rattle.tableau.specs.OwnNumbers.{scale_of, multipliers_of}
 use Rattle.simplex.specs.Ends.{IsOptimum}
 use Rattle.branch_bound.specs.Optima.{exchange_budget}
 use Rattle.branch_bound.specs.Stops.{IsStop, HasPlanWithin}
 use Rattle.branch_bound.specs.inside.Better.{IsNoDearer}
-use Rattle.branch_bound.specs.inside.Grown.{dead_leaf, whole_leaf, stopped_leaf, grown_of, IsGrownLeaf, IsGoodNode}
+use Rattle.branch_bound.specs.inside.Grown.{Grown, dead_leaf, whole_leaf, stopped_leaf, waiting_leaf, grown_of, IsGrownLeaf, IsGoodNode}
 use Rattle.branch_bound.specs.inside.Proving.{IsProvedOn, IsWritten, IsNumberPastLimit}
 use Rattle.branch_bound.specs.inside.Searches.{best_cost, IsBest}
 use Rattle.branch_bound.specs.declared.notes.NodeNote.{NodeNote}
 use Rattle.branch_bound.specs.declared.work.Proved.{Proved}
 use Rattle.branch_bound.specs.declared.work.Optimum.{Optimum}
 use Rattle.branch_bound.specs.declared.work.Work.{Work}
+use Rattle.branch_bound.specs.declared.work.Reason.TheVariants.{Stop}
 use Rattle.branch_bound.specs.declared.best.Best.{Best}
 use Rattle.branch_bound.specs.inside.Solved.{Solved}
 use Rattle.branch_bound.specs.declared.notes.NodeNote.TheVariants.{Limit}
@@ -41,10 +44,16 @@ pub record AreProving (program : Program) (scale : ℤ) (mults : List ℤ) : Typ
   pub within : All (λ y. unsigned_abs y < 2 ^ 127) mults
   pub right_signs : HasRightSigns program mults
 
--- a stopped leaf with this note, and with what scale and multipliers prove
-pub record IsStoppedLeaf (program : Program) (scale : ℤ) (mults : List ℤ) (note : NodeNote) (leaf : Work) : Type 0 where
+-- a leaf whose simplex stopped: it is stopped with this note, or waits with it for a split of its box
+abbrev pub IsStopOf : Road → BoxRange → Proved → NodeNote → Grown → Type 0
+IsStopOf road box proved note leaf =
+    (leaf ≡ stopped_leaf proved note)
+    ⊎ ((split : Split) × (IsSplitOf road box split × (leaf ≡ waiting_leaf (record { range = box; split = split; reason = Stop note; proved = proved }))))
+
+-- a leaf whose simplex stopped with this note, and with what scale and multipliers prove
+pub record IsStoppedLeaf (road : Road) (box : BoxRange) (program : Program) (scale : ℤ) (mults : List ℤ) (note : NodeNote) (leaf : Work) : Type 0 where
   pub proved : Proved
-  pub is_stopped : grown_of leaf ≡ stopped_leaf proved note
+  pub is_stopped : IsStopOf road box proved note (grown_of leaf)
   pub proved_on : IsProvedOn program scale mults proved
 
 -- the simplex stopped so, at a tableau with this scale and these multipliers
@@ -91,10 +100,10 @@ pub record IsDeadLeaf (program : Program) (leaf : Work) : Type 0 where
   pub above_zero : pos 0 <ℤ told_value program (pos 0) pairs
 
 -- or one that stopped since its narrowed ray doesn't prove the box empty
-pub record IsLimitLeaf (road : Road) (program : Program) (trail : List Exchange) (scale : ℤ) (mults : List ℤ) (leaf : Work) : Type 0 where
+pub record IsLimitLeaf (road : Road) (box : BoxRange) (program : Program) (trail : List Exchange) (scale : ℤ) (mults : List ℤ) (leaf : Work) : Type 0 where
   pub number : ℤ
-  pub leaf_is : IsStoppedLeaf program scale mults (Limit trail number) leaf
+  pub leaf_is : IsStoppedLeaf road box program scale mults (Limit trail number) leaf
   pub stop : (cost : Option Fraction) → IsStopWith road cost program (Limit trail number) scale mults
 
-abbrev pub IsEmptyLeaf : Road → Program → List Exchange → ℤ → List ℤ → Work → Type 0
-IsEmptyLeaf road program trail scale mults leaf = IsDeadLeaf program leaf ⊎ IsLimitLeaf road program trail scale mults leaf
+abbrev pub IsEmptyLeaf : Road → BoxRange → Program → List Exchange → ℤ → List ℤ → Work → Type 0
+IsEmptyLeaf road box program trail scale mults leaf = IsDeadLeaf program leaf ⊎ IsLimitLeaf road box program trail scale mults leaf

@@ -1,13 +1,17 @@
--- The section whose volume is furthest from that of its offset. Breakpoints strictly inside a range of offsets, and thicknesses of leading slabs strictly between two numbers.
-use Rattle.std.specs.Prelude.{◌≡◌, ◌≢◌, ℕ, List, ℤ, ◌<ℤ◌}
+-- Breakpoints strictly inside a range of offsets, and thicknesses of leading slabs strictly between two numbers. The split of a section's
+-- heights that scores best.
+use Rattle.std.specs.Prelude.{◌≡◌, ℕ, Option, Some, None, List, ℤ, ◌<ℤ◌}
 use Rattle.road_types.specs.Numbered.{IsNumber}
-use Rattle.road_types.specs.declared.road.Road.{Road}
-use Rattle.road_points.specs.Shown.{IsExactAt}
-use Rattle.milp_builder.specs.FoundPlans.{IsOtherVolume}
-use Rattle.branch_bound.specs.declared.splitting.Worst.{Worst}
 use Rattle.road_types.specs.Breakpoints.{leading_thickness, IsBreakpoint}
+use Rattle.road_types.specs.Ranges.{height_range}
+use Rattle.road_types.specs.Road.{section}
+use Rattle.road_types.specs.declared.road.Road.{Road}
 use Rattle.road_types.specs.declared.road.Section.{Section}
 use Rattle.road_types.specs.declared.road.Slab.{Slab}
+use Rattle.road_points.specs.Shown.{IsExactAt}
+use Rattle.milp_builder.specs.FoundPlans.{IsOtherVolume}
+use Rattle.milp_builder.specs.declared.boxes.BoxRange.{BoxRange}
+use Rattle.branch_bound.specs.declared.splitting.Candidate.{Candidate}
 
 pub record IsInnerBreakpoint (s : Section) (range : ℤ × ℤ) (at : ℤ) : Type 0 where
   pub breakpoint : IsBreakpoint s at
@@ -23,8 +27,12 @@ pub record IsInnerThickness (slabs : List Slab) (low high thickness : ℤ) : Typ
 pub record HasNoInnerThickness (slabs : List Slab) (low high : ℤ) : Type 0 where
   pub none : (k : ℕ) → low <ℤ leading_thickness slabs k → leading_thickness slabs k <ℤ high → ⊥
 
--- of the first sections: one whose volume isn't exact, unless all are
-pub record IsWorstOf (road : Road) (den : ℤ) (point : List ℤ) (count : ℕ) (worst : Worst) : Type 0 where
-  pub none : worst.number ≡ 0 → worst.error ≡ 0
-  pub exact : worst.error ≡ 0 → (i : ℕ) → IsNumber i count → IsExactAt road den point i
-  pub some : worst.number ≢ 0 → IsOtherVolume road den point worst.number
+-- the section is filled and cut otherwise than its offset asks, and the offset is a breakpoint strictly inside its range
+pub record IsAskedHeight (road : Road) (box : BoxRange) (den : ℤ) (point : List ℤ) (candidate : Candidate) : Type 0 where
+  pub other : IsOtherVolume road den point candidate.section
+  pub inside : IsInnerBreakpoint (section road candidate.section) (height_range box.heights candidate.section) candidate.at
+
+-- of the first sections: none where all are exact, and else such a split
+abbrev pub IsBestOf : Road → BoxRange → ℤ → List ℤ → ℕ → Option Candidate → Type 0
+IsBestOf road box den point count None = (i : ℕ) → IsNumber i count → IsExactAt road den point i
+IsBestOf road box den point count (Some best) = IsAskedHeight road box den point best

@@ -26,12 +26,12 @@ pub returns-in-Some : goal.returns-in-Some
 returns-in-Some c =
     let dead : AreDeadMults c.args.milp.now c.as_slice-2.result.now (Some c.in-Some.pairs) =
     subst (λ pairs. AreDeadMults c.args.milp.now c.as_slice-2.result.now pairs) c.in-Some.is c.in_ok-pairs.ensures in
-    empty_dead c.args.road.now c.args.milp.now c.args.trail.items c.args.ray.items c.args.scale c.args.mults.items c.requires.dead
+    empty_dead c.args.road.now c.args.range c.args.milp.now c.args.trail.items c.args.ray.items c.args.scale c.args.mults.items c.requires.dead
     c.narrowed-ray.result.mults.items c.in-Some.pairs _ c.narrowed-ray.ensures.count c.narrowed-ray.ensures.signs
     (subst (λ (ys : List ℤ). AreDeadMults c.args.milp.now ys (Some c.in-Some.pairs)) c.as_slice-2.ensures.value dead) c.emptied_leaf.ensures
 
-pub stopped_leaf-requires : goal.stopped_leaf-requires
-stopped_leaf-requires c =
+pub stopped_leaf-requires-clause-proving : goal.stopped_leaf-requires-clause-proving
+stopped_leaf-requires-clause-proving c =
     let scale : FitsSigned w128 c.args.scale = c.ranges.scale in
     simp to_z-of_z (dead_proving c.args.milp.now (exchange_budget c.args.road.now) c.args.trail.items c.args.ray.items c.args.scale c.args.mults.items
     c.requires.dead c.requires.mults)
@@ -52,13 +52,13 @@ returns c =
     let dead : AreDeadMults program c.as_slice-2.result.now None =
     subst (λ pairs. AreDeadMults program c.as_slice-2.result.now pairs) c.in_default.is c.in_ok-pairs.ensures in
     let nothing : AreDeadMults program c.narrowed-ray.result.mults.items None = subst (λ (ys : List ℤ). AreDeadMults program ys None) c.as_slice-2.ensures.value dead in
-    let raw : IfOk c.stopped_leaf.result (λ leaf. IsStoppedLeaf program c.args.scale c.args.mults.items (Limit c.new.result c.greatest_magnitude-greatest.result) leaf) =
+    let raw : IfOk c.stopped_leaf.result (λ leaf. IsStoppedLeaf c.args.road.now c.args.range program c.args.scale c.args.mults.items (Limit c.new.result c.greatest_magnitude-greatest.result) leaf) =
     simp to_z-of_z at c.stopped_leaf.ensures in
-    let stopped : IfOk c.stopped_leaf.result (λ leaf. IsStoppedLeaf program c.args.scale c.args.mults.items (Limit c.args.trail.items c.greatest_magnitude-greatest.result) leaf) =
-    subst (λ (trail : List Exchange). IfOk c.stopped_leaf.result (λ leaf. IsStoppedLeaf program c.args.scale c.args.mults.items (Limit trail c.greatest_magnitude-greatest.result) leaf))
+    let stopped : IfOk c.stopped_leaf.result (λ leaf. IsStoppedLeaf c.args.road.now c.args.range program c.args.scale c.args.mults.items (Limit c.args.trail.items c.greatest_magnitude-greatest.result) leaf) =
+    subst (λ (trail : List Exchange). IfOk c.stopped_leaf.result (λ leaf. IsStoppedLeaf c.args.road.now c.args.range program c.args.scale c.args.mults.items (Limit trail c.greatest_magnitude-greatest.result) leaf))
     c.new.ensures raw in
     IfOk-weaker c.stopped_leaf.result _ _
     (λ leaf s.
-    empty_limit c.args.road.now program c.args.trail.items numbers c.args.scale c.args.mults.items c.requires.dead
+    empty_limit c.args.road.now c.args.range program c.args.trail.items numbers c.args.scale c.args.mults.items c.requires.dead
     c.greatest_magnitude-greatest.result c.from_one.result c.narrowed-ray.result.scale c.narrowed-ray.result.mults.items leaf greatest top narrowed unchanged nothing s)
     stopped

@@ -23,16 +23,16 @@ solve_optimum-requires-clause-numbers c =
     optimum_proving c.args.milp.now (exchange_budget c.args.road.now) c.in-Best.trail.items c.in-Best.scale c.in-Best.mults.items within c.in-Best.den c.in-Best.point.items end in
     simp to_z-of_z (subst (λ (ys : List ℤ). AreProving c.args.milp.now c.in-Best.scale ys) (sym c.new-in-Best-2.ensures) proving)
 
-pub stopped_leaf-requires : goal.stopped_leaf-requires
-stopped_leaf-requires c =
+pub stopped_leaf-requires-clause-proving : goal.stopped_leaf-requires-clause-proving
+stopped_leaf-requires-clause-proving c =
     let scale : FitsSigned w128 c.in-Pivots.scale = search rules in
     let end : IsSpent c.args.milp.now (exchange_budget c.args.road.now) c.in-Pivots.trail.items c.in-Pivots.scale c.in-Pivots.mults.items =
     subst (λ (e : LpEnd). IsEnd (2 ^ 127 - 1) c.args.milp.now (exchange_budget c.args.road.now) e) c.in-Pivots.is c.requires.end in
     let within : AreWithin (2 ^ 127 - 1) c.in-Pivots.mults.items = subst (λ (e : LpEnd). HasNumbersWithin (2 ^ 127 - 1) e) c.in-Pivots.is c.requires.numbers in
     simp to_z-of_z (spent_proving c.args.milp.now (exchange_budget c.args.road.now) c.in-Pivots.trail.items c.in-Pivots.scale c.in-Pivots.mults.items within end)
 
-pub stopped_leaf-requires-in-Wide : goal.stopped_leaf-requires-in-Wide
-stopped_leaf-requires-in-Wide c =
+pub stopped_leaf-requires-in-Wide-clause-proving : goal.stopped_leaf-requires-in-Wide-clause-proving
+stopped_leaf-requires-in-Wide-clause-proving c =
     let scale : FitsSigned w128 c.in-Wide.scale = search rules in
     let end : IsWide (2 ^ 127 - 1) c.args.milp.now (exchange_budget c.args.road.now) c.in-Wide.trail.items c.in-Wide.op c.in-Wide.scale c.in-Wide.mults.items =
     subst (λ (e : LpEnd). IsEnd (2 ^ 127 - 1) c.args.milp.now (exchange_budget c.args.road.now) e) c.in-Wide.is c.requires.end in
@@ -42,7 +42,7 @@ stopped_leaf-requires-in-Wide c =
 pub returns-in-Empty : goal.returns-in-Empty
 returns-in-Empty c =
     let scale : FitsSigned w128 c.in-Empty.scale = search rules in
-    let empty : IfOk c.empty_leaf.result (λ leaf. IsEmptyLeaf c.args.road.now c.args.milp.now c.in-Empty.trail.items c.in-Empty.scale c.in-Empty.mults.items leaf) =
+    let empty : IfOk c.empty_leaf.result (λ leaf. IsEmptyLeaf c.args.road.now c.args.range c.args.milp.now c.in-Empty.trail.items c.in-Empty.scale c.in-Empty.mults.items leaf) =
     simp to_z-of_z at c.empty_leaf.ensures in
     IfOk-weaker c.empty_leaf.result _ _
     (λ leaf h.
@@ -55,13 +55,13 @@ returns-in-Pivots c =
     let scale : FitsSigned w128 c.in-Pivots.scale = search rules in
     let end : IsSpent c.args.milp.now (exchange_budget c.args.road.now) c.in-Pivots.trail.items c.in-Pivots.scale c.in-Pivots.mults.items =
     subst (λ (e : LpEnd). IsEnd (2 ^ 127 - 1) c.args.milp.now (exchange_budget c.args.road.now) e) c.in-Pivots.is c.requires.end in
-    let stopped : IfOk c.stopped_leaf.result (λ leaf. IsStoppedLeaf c.args.milp.now c.in-Pivots.scale c.in-Pivots.mults.items (Pivots c.new-in-Pivots.result) leaf) =
+    let stopped : IfOk c.stopped_leaf.result (λ leaf. IsStoppedLeaf c.args.road.now c.args.range c.args.milp.now c.in-Pivots.scale c.in-Pivots.mults.items (Pivots c.new-in-Pivots.result) leaf) =
     simp to_z-of_z at c.stopped_leaf.ensures in
     IfOk-weaker c.stopped_leaf.result _ _
     (λ leaf h.
     spent_solved c.args.road.now c.args.best.now c.args.range c.args.milp.now _ c.requires.best c.requires.program refl
     c.in-Pivots.trail.items c.in-Pivots.scale c.in-Pivots.mults.items
-    (subst (λ (trail : List Exchange). IsStoppedLeaf c.args.milp.now c.in-Pivots.scale c.in-Pivots.mults.items (Pivots trail) leaf) c.new-in-Pivots.ensures h) end)
+    (subst (λ (trail : List Exchange). IsStoppedLeaf c.args.road.now c.args.range c.args.milp.now c.in-Pivots.scale c.in-Pivots.mults.items (Pivots trail) leaf) c.new-in-Pivots.ensures h) end)
     stopped
 
 pub returns-in-Wide : goal.returns-in-Wide
@@ -69,11 +69,11 @@ returns-in-Wide c =
     let scale : FitsSigned w128 c.in-Wide.scale = search rules in
     let end : IsWide (2 ^ 127 - 1) c.args.milp.now (exchange_budget c.args.road.now) c.in-Wide.trail.items c.in-Wide.op c.in-Wide.scale c.in-Wide.mults.items =
     subst (λ (e : LpEnd). IsEnd (2 ^ 127 - 1) c.args.milp.now (exchange_budget c.args.road.now) e) c.in-Wide.is c.requires.end in
-    let stopped : IfOk c.stopped_leaf-in-Wide.result (λ leaf. IsStoppedLeaf c.args.milp.now c.in-Wide.scale c.in-Wide.mults.items (Wide c.new-in-Wide.result c.in-Wide.op) leaf) =
+    let stopped : IfOk c.stopped_leaf-in-Wide.result (λ leaf. IsStoppedLeaf c.args.road.now c.args.range c.args.milp.now c.in-Wide.scale c.in-Wide.mults.items (Wide c.new-in-Wide.result c.in-Wide.op) leaf) =
     simp to_z-of_z at c.stopped_leaf-in-Wide.ensures in
     IfOk-weaker c.stopped_leaf-in-Wide.result _ _
     (λ leaf h.
     wide_solved c.args.road.now c.args.best.now c.args.range c.args.milp.now _ c.requires.best c.requires.program refl
     c.in-Wide.trail.items c.in-Wide.op c.in-Wide.scale c.in-Wide.mults.items
-    (subst (λ (trail : List Exchange). IsStoppedLeaf c.args.milp.now c.in-Wide.scale c.in-Wide.mults.items (Wide trail c.in-Wide.op) leaf) c.new-in-Wide.ensures h) end)
+    (subst (λ (trail : List Exchange). IsStoppedLeaf c.args.road.now c.args.range c.args.milp.now c.in-Wide.scale c.in-Wide.mults.items (Wide trail c.in-Wide.op) leaf) c.new-in-Wide.ensures h) end)
     stopped

@@ -1,0 +1,5 @@
+use Rattle.branch_bound.specs.inside.Splitting.{IsInnerBreakpoint}
+use Rattle.branch_bound.proofs.splitting.best_fill.Given as goal
+
+abbrev pub invariant-loop-slab : goal.invariant-loop-slab
+invariant-loop-slab l = IsInnerBreakpoint l.section l.range l.best.at

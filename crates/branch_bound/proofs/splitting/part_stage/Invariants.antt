@@ -1,6 +1,0 @@
-use Rattle.std.proofs.Common.{ℕ, ◌≤◌, ◌<◌}
-use Rattle.road_points.specs.Shown.{IsWholeAt}
-use Rattle.branch_bound.proofs.splitting.part_stage.Given as goal
-
-abbrev pub invariant-loop-stage : goal.invariant-loop-stage
-invariant-loop-stage l = (t : ℕ) → 2 ≤ t → t < l.stage → IsWholeAt l.road l.den l.point l.block t
