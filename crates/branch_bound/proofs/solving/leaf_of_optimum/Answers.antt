@@ -24,7 +24,7 @@ returns-then-optimum-gt-GREATEST_SCALE c =
     let own = subst (λ (point : List ℤ). AsksForNothing c.args.road.now c.args.optimum.den point) c.as_slice.ensures none in
     let past = simp to_z-of_z at c.if-optimum-gt-GREATEST_SCALE.true in
     denominator_solved c.args.road.now c.args.best.now c.args.range c.args.optimum c.args.proved _ c.requires.best c.requires.optimum refl
-    own.whole (omega (arith, ints, past)) (inl c.past_plans.ensures)
+    own.whole own.exact (omega (arith, ints, past)) (inl c.past_plans.ensures)
 
 pub plan_found-requires-clause-den : goal.plan_found-requires-clause-den
 plan_found-requires-clause-den c =
