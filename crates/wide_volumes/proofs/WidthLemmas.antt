@@ -1,5 +1,5 @@
 -- Widths of volumes over a denominator of 128 bits.
-use Rattle.std.proofs.Common.{◌≡◌, ◌^◌, ◌<◌, arith}
+use Rattle.std.proofs.Common.{◌^◌, arith}
 use Rattle.std.specs.Prelude.{ℤ, pos, ◌*ℤ◌, ◌≤ℤ◌}
 use Rattle.std.proofs.lemmas.Int.{ints}
 use Rattle.algebra.proofs.Order.{int_mul_le_mul, int_mul_le_right}

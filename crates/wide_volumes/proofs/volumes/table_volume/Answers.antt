@@ -1,6 +1,5 @@
 use Rattle.std.proofs.Common.{◌+◌, ap, drop, arith}
 use Rattle.std.specs.Prelude.{ℤ, pos}
-use Rattle.std.specs.Int.{w128}
 use Rattle.std.proofs.lemmas.Int.{ints, to_z-of_z}
 use Rattle.road_types.specs.declared.road.Slab.{Slab}
 use Rattle.road_types.specs.Volumes.{volume_to}
