@@ -14,10 +14,10 @@ use Rattle.simplex.proofs.Denominators.{wide_denominator}
 use Rattle.simplex.proofs.Endings.{own_optimum}
 use Rattle.simplex.proofs.table.Tableau.fill_optimum.Goals as goal
 
-pub returns-in-None-clause-wide : goal.returns-in-None-clause-wide
-returns-in-None-clause-wide g c =
+pub returns-in_default-clause-wide : goal.returns-in-None-clause-wide
+returns-in_default-clause-wide g c =
     let law = g.met.W.Narrow.below_wide in
-    let over : 2 ^ 127 - 1 < unsigned_abs (whole_of c.in-Ok.den.value) = beyond _ _ (λ l. c.in-None.ensures.some.1 (omega arith)) in
+    let over : 2 ^ 127 - 1 < unsigned_abs (whole_of c.in-Ok.den.value) = beyond _ _ (λ l. c.in_default.ensures.some.1 (omega arith)) in
     subst (λ (n : ℕ). IsOutOfRange g.W.Whole.greatest (tableau_of g.W.Whole.meaning c.args.self.now) (Join n)) (sym c.rows-rows.ensures.count)
     (out_weaker g.W.Whole.greatest (2 ^ 127 - 1) (tableau_of g.W.Whole.meaning c.args.self.now) (Join (row_count c.args.self.now.program)) (omega (arith, law))
     (wide_denominator (tableau_of g.W.Whole.meaning c.args.self.now) (2 ^ 127 - 1) (whole_of c.in-Ok.den.value) c.requires.optimal c.in-Ok.ensures.least over))

@@ -35,3 +35,7 @@ returns-in-None-clause-wide g c =
     (out_weaker g.W.Whole.greatest (2 ^ 127 - 1) (tableau_of g.W.Whole.meaning c.args.self.now) (Join (row_count c.args.self.now.program)) (omega (arith, law))
     (wide_coordinate (tableau_of g.W.Whole.meaning c.args.self.now) (2 ^ 127 - 1) (whole_of c.args.den.value) (c.loop-k.k + 1) c.rows-rows.ensures.laws.laws c.requires.optimal c.requires.least (omega arith) within
     (λ x point. subst (λ (y : ℤ). 2 ^ 127 - 1 < unsigned_abs y) (sym (c.in-Ok.ensures.value x point)) over)))
+
+pub returns-clause-coordinates : goal.returns-clause-coordinates
+returns-clause-coordinates g c = λ x point j first last.
+    c.loop-k.invariant.1.1 x point j first (let a = c.loop-k-test.false in let b = c.columns-columns.ensures in let d = c.loop-k.auto.k-end in omega arith)

@@ -32,32 +32,6 @@ entering_column-requires-clause-costs g c =
     subst (λ (n : ℕ). IsLine g.W.Whole.meaning 0 n c.row-2.result.now) (sym (ap length c.deref.ensures.value))
     (subst (λ (ts : List (Term g.row.W.Denot)). IsLine g.W.Whole.meaning 0 (length c.self.inside.low.items) ts) (sym (c.row-2.ensures ∙ sym front)) (c.self.invariant.reached.shape.rising 0 (omega arith)))
 
-pub overflow_cast-result-in-Err : goal.overflow_cast-result-in-Err
-overflow_cast-result-in-Err g c =
-    let i_row : IsRow (tableau_of g.W.Whole.meaning (state g.W.Whole.meaning c.self.inside.milp.now c.self.inside.low.items c.self.inside.high.items c.self.inside.has_high.items c.self.inside.lines.rows c.self.inside.basis.items c.self.inside.at_high.items)) c.args.row = subst (λ (s : State g.row.W.Denot). IsRow (tableau_of g.W.Whole.meaning s) c.args.row) (sym c.self.view_is) c.requires.row in
-    let in_front : c.args.row < row_count c.self.inside.milp.now + 1 = (let l = i_row.1 in omega arith) in
-    let front = get_or-take (row_count c.self.inside.milp.now + 1) c.self.inside.lines.rows c.args.row [] in_front in
-    let basic = ap (λ (bs : List ℕ). get_or bs c.args.row 0) c.as_slice-basis.ensures.value in
-    let line : c.row.result.now ≡ get_or (state g.W.Whole.meaning c.self.inside.milp.now c.self.inside.low.items c.self.inside.high.items c.self.inside.has_high.items c.self.inside.lines.rows c.self.inside.basis.items c.self.inside.at_high.items).lines c.args.row [] = c.row.ensures ∙ sym front in
-    let e = (eligible_of_enters g.W.Whole.meaning (state g.W.Whole.meaning c.self.inside.milp.now c.self.inside.low.items c.self.inside.high.items c.self.inside.has_high.items c.self.inside.lines.rows c.self.inside.basis.items c.self.inside.at_high.items) c.self.invariant.reached c.args.row i_row c.args.broken c.in-Err.column (carry (λ (at : ℕ) (ts : List (Term g.row.W.Denot)) (lo hi : List g.row.W.Denot) (hh ah : List Bool). MayEnter g.W.Whole.meaning ts at lo hi hh ah c.args.broken c.in-Err.column) basic line c.deref.ensures.value c.deref-2.ensures.value c.deref-3.ensures.value c.deref-4.ensures.value c.in-Err.ensures.wide.enters)) in
-    let l = e.column.1 in
-    let m = c.self.invariant.reached.shape.low in
-    let k = c.self.invariant.reached.shape.few in
-    omega arith
-
-pub overflow_cast-result-in-Err-2 : goal.overflow_cast-result-in-Err-2
-overflow_cast-result-in-Err-2 g c =
-    let i_row : IsRow (tableau_of g.W.Whole.meaning (state g.W.Whole.meaning c.self.inside.milp.now c.self.inside.low.items c.self.inside.high.items c.self.inside.has_high.items c.self.inside.lines.rows c.self.inside.basis.items c.self.inside.at_high.items)) c.args.row = subst (λ (s : State g.row.W.Denot). IsRow (tableau_of g.W.Whole.meaning s) c.args.row) (sym c.self.view_is) c.requires.row in
-    let in_front : c.args.row < row_count c.self.inside.milp.now + 1 = (let l = i_row.1 in omega arith) in
-    let front = get_or-take (row_count c.self.inside.milp.now + 1) c.self.inside.lines.rows c.args.row [] in_front in
-    let basic = ap (λ (bs : List ℕ). get_or bs c.args.row 0) c.as_slice-basis.ensures.value in
-    let line : c.row.result.now ≡ get_or (state g.W.Whole.meaning c.self.inside.milp.now c.self.inside.low.items c.self.inside.high.items c.self.inside.has_high.items c.self.inside.lines.rows c.self.inside.basis.items c.self.inside.at_high.items).lines c.args.row [] = c.row.ensures ∙ sym front in
-    let e = (eligible_of_enters g.W.Whole.meaning (state g.W.Whole.meaning c.self.inside.milp.now c.self.inside.low.items c.self.inside.high.items c.self.inside.has_high.items c.self.inside.lines.rows c.self.inside.basis.items c.self.inside.at_high.items) c.self.invariant.reached c.args.row i_row c.args.broken c.in-Err.other (carry (λ (at : ℕ) (ts : List (Term g.row.W.Denot)) (lo hi : List g.row.W.Denot) (hh ah : List Bool). MayEnter g.W.Whole.meaning ts at lo hi hh ah c.args.broken c.in-Err.other) basic line c.deref.ensures.value c.deref-2.ensures.value c.deref-3.ensures.value c.deref-4.ensures.value c.in-Err.ensures.wide.other)) in
-    let l = e.column.1 in
-    let m = c.self.invariant.reached.shape.low in
-    let k = c.self.invariant.reached.shape.few in
-    omega arith
-
 pub returns-clause-chosen : goal.returns-clause-chosen
 returns-clause-chosen g c =
     let i_row : IsRow (tableau_of g.W.Whole.meaning (state g.W.Whole.meaning c.self.inside.milp.now c.self.inside.low.items c.self.inside.high.items c.self.inside.has_high.items c.self.inside.lines.rows c.self.inside.basis.items c.self.inside.at_high.items)) c.args.row = subst (λ (s : State g.row.W.Denot). IsRow (tableau_of g.W.Whole.meaning s) c.args.row) (sym c.self.view_is) c.requires.row in
