@@ -1,10 +1,10 @@
 -- A row that is written a second time, after a first try wrote to the same place.
-use Rattle.std.proofs.Common.{◌≡◌, ℕ, ◌<◌, List, [], length, get_or, set, set-set, arith, ap, sym, ◌∙◌, refl, subst, inl, inr}
+use Rattle.std.proofs.Common.{◌≡◌, ℕ, ◌<◌, List, [], length, get_or, set, set-set, arith, ap, sym, ◌∙◌, subst, inl, inr}
 use Rattle.std.specs.Prelude.{ℤ, pos, ◌≢◌}
 use Rattle.term_store.specs.declared.term.Term.{Term}
 use Rattle.tableau.specs.Exchanges.{IsDivided}
-use Rattle.sparse_rows.specs.Lines.{entry_of, IsLine}
-use Rattle.simplex.specs.inside.Rows.{AreSameBut, IsWideBy, reduced_by}
+use Rattle.sparse_rows.specs.Lines.{entry_of}
+use Rattle.simplex.specs.inside.Rows.{AreSameBut, reduced_by}
 use Rattle.simplex.proofs.Reducing.{other_row_same, rows_length}
 
 module _ {A : Type 0} (f : A → ℤ) (spare : ℕ) (before middle : List (List (Term A))) (first : AreSameBut f spare before middle) where

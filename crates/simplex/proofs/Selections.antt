@@ -1,7 +1,6 @@
 -- The choice in terms of lists is the choice in the tableau.
-use Rattle.std.proofs.Common.{◌≡◌, ℕ, ◌+◌, ◌-◌, ◌*◌, ◌≤◌, ◌<◌, ◌⊎◌, inl, inr, List, [], ◌∷◌, length, get_or, false, cond, arith, ap, sym, ◌∙◌, refl, subst, ⊎_elim}
+use Rattle.std.proofs.Common.{◌≡◌, ℕ, ◌+◌, ◌-◌, ◌≤◌, ◌<◌, ◌⊎◌, inl, inr, List, [], ◌∷◌, length, get_or, false, cond, arith, ap, sym, ◌∙◌, refl, subst, ⊎_elim}
 use Rattle.std.specs.Prelude.{ℤ, pos, ◌≢◌, ◌==◌, ◌+ℤ◌, ◌*ℤ◌, unsigned_abs, if◌then◌else◌}
-use Rattle.std.proofs.lemmas.Int.{ints}
 use Rattle.algebra.specs.Sums.{sum_to}
 use Rattle.algebra.proofs.SumsLemmas.{sum_to_ext}
 use Rattle.term_store.specs.declared.term.Term.{Term}

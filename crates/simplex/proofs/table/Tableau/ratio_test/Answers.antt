@@ -1,16 +1,15 @@
-use Rattle.std.proofs.Common.{◌≡◌, ℕ, ◌+◌, ◌-◌, ◌^◌, ◌<◌, List, [], get_or, length, Bool, arith, ap, sym, ◌∙◌, subst}
+use Rattle.std.proofs.Common.{◌≡◌, ℕ, ◌+◌, ◌<◌, List, [], get_or, length, Bool, arith, ap, sym, ◌∙◌, subst}
 use Rattle.std.proofs.lemmas.List.{get_or-take}
 use Rattle.term_store.specs.declared.term.Term.{Term}
 use Rattle.programs.specs.Programs.{row_count}
 use Rattle.tableau.specs.Tableaux.{IsRow}
 use Rattle.tableau.specs.Exchanges.{IsOutside}
 use Rattle.tableau.specs.Ends.{IsEmptyRow}
-use Rattle.tableau.specs.Operations.{IsOutOfRange}
 use Rattle.sparse_rows.specs.Lines.{IsLine}
 use Rattle.simplex.specs.States.{State, tableau_of}
 use Rattle.simplex.specs.inside.Choices.{MayEnter, IsChosen}
 use Rattle.simplex.proofs.Keeping.{state}
-use Rattle.simplex.proofs.Breaks.{carry, some_weaker, none_weaker, out_weaker}
+use Rattle.simplex.proofs.Breaks.{carry, some_weaker, none_weaker}
 use Rattle.simplex.proofs.Selections.{line_first, eligible_of_enters, empty_of_none}
 use Rattle.simplex.proofs.table.Tableau.ratio_test.Goals as goal
 
