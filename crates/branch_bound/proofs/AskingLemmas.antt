@@ -1,6 +1,6 @@
 -- What the functions that look for the split of a point need, said of a road without a fault: one lemma for each step.
 use Rattle.std.proofs.Common.{◌≡◌, ℕ, ◌+◌, ◌-◌, ◌<◌, ◌⊎◌, Option, None, Some, List, length, get_or, sym, subst, arith, ⊎_elim}
-use Rattle.std.specs.Prelude.{ℤ, pos, ◌≤ℤ◌, ◌<ℤ◌, MatchOption}
+use Rattle.std.specs.Prelude.{ℤ, pos, ◌≤ℤ◌, MatchOption}
 use Rattle.algebra.proofs.NumberedLemmas.{numbered_at}
 use Rattle.programs.specs.Points.{IsPoint}
 use Rattle.road_types.specs.Numbered.{IsNumber}

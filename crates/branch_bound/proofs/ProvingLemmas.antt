@@ -1,14 +1,13 @@
 -- Multipliers as they are written down, and what they prove once they are narrowed.
-use Rattle.std.proofs.Common.{◌≡◌, ◌≢◌, ℕ, zero, suc, ◌+◌, ◌≤◌, ◌<◌, ◌^◌, ◌==◌, Bool, true, false, cond, List, [], ◌∷◌, ◌++◌, length, take, get_or, refl, sym, ap, subst, arith, ⊎_elim, ◌∙◌}
-use Rattle.std.specs.Prelude.{ℤ, pos, ◌≤ℤ◌, ◌<ℤ◌, if◌then◌else◌, unsigned_abs}
+use Rattle.std.proofs.Common.{◌≡◌, ℕ, ◌+◌, ◌≤◌, ◌<◌, ◌^◌, List, length, get_or, sym, ap, subst, arith, ⊎_elim, ◌∙◌}
+use Rattle.std.specs.Prelude.{ℤ, pos, ◌≤ℤ◌, ◌<ℤ◌, unsigned_abs}
 use Rattle.std.specs.Int.{int_max}
 use Rattle.std.specs.List.{All}
 use Rattle.std.proofs.lemmas.Int.{ints}
-use Rattle.std.proofs.lemmas.Bool.{eq-eqb, ne_eqb, cases_lt}
-use Rattle.std.proofs.lemmas.List.{take_more, take_all, get_or_default}
-use Rattle.std.proofs.lemmas.List.Elements.{All-get_or, Contains-get_or}
+use Rattle.std.proofs.lemmas.Bool.{cases_lt}
+use Rattle.std.proofs.lemmas.List.{take_all, get_or_default}
+use Rattle.std.proofs.lemmas.List.Elements.{Contains-get_or}
 use Rattle.algebra.specs.Scale.{IsScale}
-use Rattle.algebra.proofs.Magnitudes.{zero_of_unsigned_abs}
 use Rattle.algebra.proofs.Order.{int_le_trans, int_le_total, int_le_max_left, int_le_max_right, int_max_of_ge, int_max_of_le}
 use Rattle.programs.specs.Programs.{Program, row_count}
 use Rattle.safe_bounds.specs.Values.{value_of, IsMultiplier, AreMultipliers, HasRightSigns}
