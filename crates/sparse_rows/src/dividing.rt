@@ -46,11 +46,7 @@ fn lesser<T: Whole>(a: T, b: T) -> T
     ensures { (result ≡ a) ⊎ (result ≡ b) }
 {
     let size = a.size();
-    if size == 0 || b.size() < size {
-        b
-    } else {
-        a
-    }
+    if size == 0 || b.size() < size { b } else { a }
 }
 
 /// Puts the row of these terms, each divided by `divisor`, into `row`, in the narrower range.

@@ -37,9 +37,7 @@ impl Whole for W256 {
     }
 
     fn of_wide(v: i128) -> Option<W256> {
-        Some(W256 {
-            value: Wide::of(v),
-        })
+        Some(W256 { value: Wide::of(v) })
     }
 
     fn narrow(self) -> Option<i128> {
