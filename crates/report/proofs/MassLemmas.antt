@@ -23,7 +23,7 @@ use Rattle.plan_rules.proofs.HeightWidths.{within_width}
 use Rattle.report.specs.Lines.{Cell, Line, row, IsWrittenAs, Adds}
 use Rattle.report.specs.Mass.{ordinate, surplus, hop_moment, moment, first_of, peak_of, same_way, direction_of, Zone, zone_in, zones_at, zones_of, AreZones}
 use Rattle.report.specs.Reports.{IsReportable}
-use Rattle.report.specs.inside.Diagrams.{HasModerateHauls, HasPayableHauls}
+use Rattle.report.specs.inside.Hauls.{HasModerateHauls, HasPayableHauls}
 use Rattle.report.proofs.LinesLemmas.{nothing_added, both_added, row_added}
 use Rattle.report.proofs.ZoneLaws.{are_zones}
 

@@ -1,2 +1,3 @@
-pub mod Diagrams
+pub mod Hauls
 pub mod Listings
+pub mod Tables

@@ -1,6 +1,5 @@
 // The mass diagram of a plan.
-ghost use Rattle.std.specs.Prelude.{◌≡◌, ◌∷◌, [], ◌++◌, ◌+◌, ◌<◌, ◌≤◌, ◌^◌, ◌*◌, ◌*ℤ◌, ◌+ℤ◌, ◌-ℤ◌, pos, IfOk, OnErr, IfSome, None, Some, ℕ, unsigned_abs};
-ghost use Rattle.algebra.specs.Lists.{flat_to};
+ghost use Rattle.std.specs.Prelude.{◌≡◌, ◌∷◌, [], ◌+◌, ◌<◌, ◌≤◌, ◌^◌, ◌*◌, ◌*ℤ◌, ◌+ℤ◌, ◌-ℤ◌, pos, IfOk, OnErr, IfSome, None, Some, ℕ, unsigned_abs};
 ghost use Rattle.algebra.specs.Sums.{sum_to};
 ghost use Rattle.road_types.specs.Faults.{road_fault};
 ghost use Rattle.road_types.specs.Numbered.{IsNumber};
@@ -10,15 +9,14 @@ ghost use Rattle.plan_rules.specs.Fits.{Fits};
 ghost use Rattle.plan_rules.specs.Plans.{amount};
 ghost use Rattle.plan_rules.specs.Rules.{IsAdmissible};
 ghost use Rattle.report.specs.Lines.{Adds};
-ghost use Rattle.report.specs.Mass.{ordinate, surplus, hop_moment, moment, mass_line, moment_line, mass_of_stage, mass_table, zones_of_stage, zones_table, moment_table, mass_tables, mass_lines, AreZones, zones_of};
-ghost use Rattle.report.specs.Reports.{said_line, plan_found, bound_found, IsReportable};
-ghost use Rattle.report.specs.inside.Diagrams.{HasModerateHauls, HasPayableHauls, records_of};
+ghost use Rattle.report.specs.Mass.{ordinate, surplus, hop_moment, moment, mass_line, moment_line, mass_of_stage, mass_lines, AreZones, zones_of};
+ghost use Rattle.report.specs.Reports.{plan_found, bound_found, IsReportable};
+ghost use Rattle.report.specs.inside.Hauls.{HasModerateHauls, HasPayableHauls};
 
 use crate::Findings;
 use crate::cells::{number, over_den};
 use crate::lines::{push_row, push_said};
-use crate::tables::push_heading;
-use crate::zones::push_zones;
+use crate::tables::push_mass_tables;
 use algebra::{minus, plus, times};
 use plan_rules::Plan;
 use plan_rules::entries::amount_at;
@@ -86,7 +84,7 @@ ghost use Rattle.algebra.specs.Scale.{IsScale};
 
 /// Adds the rows of a stage's hops.
 #[tactic(auto, unfolding(crate::specs::Mass::mass_of_stage))]
-fn push_nets(
+pub(crate) fn push_nets(
     alloc: Global,
     road: &Road,
     plan: &Plan,
@@ -157,7 +155,7 @@ fn moment(road: &Road, plan: &Plan, stage: usize) -> i128
 }
 
 /// Adds the row of a stage's moment.
-fn push_moment(
+pub(crate) fn push_moment(
     alloc: Global,
     road: &Road,
     plan: &Plan,
@@ -173,129 +171,6 @@ fn push_moment(
     let moment = over_den(alloc, plan, moment(road, plan, stage))?;
     let stage = number(alloc, stage)?;
     push_row(alloc, &[stage.as_bytes(), moment.as_bytes()], out)
-}
-
-/// The tables of a mass diagram.
-#[derive(Clone, Copy)]
-pub(crate) enum Diagram {
-    Mass,
-    Zones,
-    Moment,
-}
-
-impl Diagram {
-    fn name(self) -> &'static str
-        ensures { result.now ≡ diagram_name self }
-    {
-        match self {
-            Diagram::Mass => "mass",
-            Diagram::Zones => "zones",
-            Diagram::Moment => "moment",
-        }
-    }
-
-    fn header(self) -> &'static str
-        ensures { result.now ≡ diagram_header self }
-    {
-        match self {
-            Diagram::Mass => "stage,hop,from,to,net",
-            Diagram::Zones => "stage,from,to,direction,peak",
-            Diagram::Moment => "stage,litremetres",
-        }
-    }
-
-    /// Adds the records of a stage.
-    #[tactic(auto, unfolding(crate::specs::inside::Diagrams::records_of))]
-    fn push_stage(
-        self,
-        alloc: Global,
-        road: &Road,
-        plan: &Plan,
-        stage: usize,
-        out: &mut Vec<u8>,
-    ) -> Result<(), AllocError>
-        requires accepted { road_fault road.now ≡ None }
-        requires fits { Fits road.now plan.now }
-        requires admissible { IsAdmissible road.now plan.now }
-        requires stage { IsNumber stage road.now.stages }
-        ensures { IfOk result (λ _. Adds (records_of road.now plan.now self stage) out.old.items out.new.items) }
-    {
-        match self {
-            Diagram::Mass => push_nets(alloc, road, plan, stage, out),
-            Diagram::Zones => push_zones(alloc, road, plan, stage, out),
-            Diagram::Moment => push_moment(alloc, road, plan, stage, out),
-        }
-    }
-
-    /// Adds the records of all stages.
-    fn push_records(
-        self,
-        alloc: Global,
-        road: &Road,
-        plan: &Plan,
-        out: &mut Vec<u8>,
-    ) -> Result<(), AllocError>
-        requires accepted { road_fault road.now ≡ None }
-        requires fits { Fits road.now plan.now }
-        requires admissible { IsAdmissible road.now plan.now }
-        ensures { IfOk result (λ _. Adds (flat_to (records_of road.now plan.now self) road.now.stages) out.old.items out.new.items) }
-    {
-        for before in 0..road.stages {
-            self.push_stage(alloc, road, plan, before + 1, out)?;
-        }
-        Ok(())
-    }
-
-    /// Adds the table: its name, its header and its records.
-    fn push(
-        self,
-        alloc: Global,
-        road: &Road,
-        plan: &Plan,
-        out: &mut Vec<u8>,
-    ) -> Result<(), AllocError>
-        requires accepted { road_fault road.now ≡ None }
-        requires fits { Fits road.now plan.now }
-        requires admissible { IsAdmissible road.now plan.now }
-        ensures { IfOk result (λ _. Adds (diagram_table road.now plan.now self) out.old.items out.new.items) }
-    {
-        push_heading(self.name(), self.header(), out)?;
-        self.push_records(alloc, road, plan, out)
-    }
-}
-
-ghost use Rattle.report.specs.inside.Diagrams.{diagram_name, diagram_header, diagram_table};
-
-/// Adds the tables of zones and moments.
-fn push_later_tables(
-    alloc: Global,
-    road: &Road,
-    plan: &Plan,
-    out: &mut Vec<u8>,
-) -> Result<(), AllocError>
-    requires accepted { road_fault road.now ≡ None }
-    requires fits { Fits road.now plan.now }
-    requires admissible { IsAdmissible road.now plan.now }
-    ensures { IfOk result (λ _. Adds (zones_table road.now plan.now ++ moment_table road.now plan.now) out.old.items out.new.items) }
-{
-    Diagram::Zones.push(alloc, road, plan, out)?;
-    Diagram::Moment.push(alloc, road, plan, out)
-}
-
-/// Adds the tables of a plan's mass diagram.
-fn push_mass_tables(
-    alloc: Global,
-    road: &Road,
-    plan: &Plan,
-    out: &mut Vec<u8>,
-) -> Result<(), AllocError>
-    requires accepted { road_fault road.now ≡ None }
-    requires fits { Fits road.now plan.now }
-    requires admissible { IsAdmissible road.now plan.now }
-    ensures { IfOk result (λ _. Adds (mass_tables road.now plan.now) out.old.items out.new.items) }
-{
-    Diagram::Mass.push(alloc, road, plan, out)?;
-    push_later_tables(alloc, road, plan, out)
 }
 
 /// Adds the mass diagram, or the line that says why there is none.

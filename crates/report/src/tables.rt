@@ -1,100 +1,47 @@
-// The tables of a plan.
-ghost use Rattle.std.specs.Prelude.{◌≡◌, ◌∷◌, [], ◌++◌, IfOk, None, unsigned_abs, ◌<◌, ◌≤◌, ◌^◌, ◌+◌, ◌+ℤ◌};
+// The tables of a plan and of its mass diagram.
+ghost use Rattle.std.specs.Prelude.{◌≡◌, ◌∷◌, [], ◌++◌, flat_map, IfOk, None, unsigned_abs, ◌<◌, ◌≤◌, ◌^◌, ◌+◌, ◌+ℤ◌};
 ghost use Rattle.algebra.specs.Lists.{flat_to};
 ghost use Rattle.algebra.specs.Scale.{IsScale};
 ghost use Rattle.road_types.specs.Faults.{road_fault};
+ghost use Rattle.road_types.specs.Numbered.{IsNumber};
 ghost use Rattle.road_types.specs.Road.{hop_count, access_count};
 ghost use Rattle.plan_rules.specs.Fits.{Fits};
 ghost use Rattle.plan_rules.specs.Rules.{IsAdmissible};
 ghost use Rattle.report.specs.Lines.{Adds};
-ghost use Rattle.report.specs.Reports.{said_line, left_lines, access_lines, profile_table, earthwork_of_stage, earthwork_table, hauls_of_stage, haul_table, blocks_table, costs_table, plan_tables, cost_line};
-ghost use Rattle.report.specs.inside.Listings.{cost_lines};
+ghost use Rattle.report.specs.Reports.{said_line, left_lines, access_lines, hauls_of_stage, plan_tables, cost_line};
+ghost use Rattle.report.specs.Mass.{mass_tables};
+ghost use Rattle.report.specs.inside.Listings.{cost_lines, all_cost_lines};
+ghost use Rattle.report.specs.inside.Tables.{table_name, table_header, part_count, part_lines, table_lines};
 
 use crate::cells::over_den;
 use crate::entries::Listing;
 use crate::lines::{push_row, push_said};
+use crate::mass::{push_moment, push_nets};
+use crate::zones::push_zones;
 use algebra::plus;
 use plan_rules::{CostTotals, Plan, cost_totals};
 use road_types::Road;
 use std::alloc::{AllocError, Global};
 
+/// The tables of a report, and those of a mass diagram.
+#[derive(Clone, Copy)]
+enum Table {
+    Profile,
+    Earthwork,
+    Haul,
+    Blocks,
+    Costs,
+    Mass,
+    Zones,
+    Moment,
+}
+
 /// Adds the name and the header of a table.
-pub(crate) fn push_heading(name: &str, header: &str, out: &mut Vec<u8>) -> Result<(), AllocError>
+fn push_heading(name: &str, header: &str, out: &mut Vec<u8>) -> Result<(), AllocError>
     ensures { IfOk result (λ _. Adds (said_line name.now ∷ said_line header.now ∷ []) out.old.items out.new.items) }
 {
     push_said(name, out)?;
     push_said(header, out)
-}
-
-/// Adds the table of heights and net volumes.
-fn push_profile_table(
-    alloc: Global,
-    road: &Road,
-    plan: &Plan,
-    out: &mut Vec<u8>,
-) -> Result<(), AllocError>
-    requires accepted { road_fault road.now ≡ None }
-    requires fits { Fits road.now plan.now }
-    requires admissible { IsAdmissible road.now plan.now }
-    ensures { IfOk result (λ _. Adds (profile_table road.now plan.now) out.old.items out.new.items) }
-{
-    push_heading(
-        "profile",
-        "section,station,metres,ground,height,offset,net",
-        out,
-    )?;
-    Listing::Profile.push_all(alloc, road, plan, 0, out)
-}
-
-/// Adds what is cut and filled in a stage.
-#[tactic(auto, unfolding(crate::specs::Reports::earthwork_of_stage, crate::specs::inside::Listings::listing_lines, crate::specs::inside::Listings::entry_lines))]
-fn push_earthwork_of_stage(
-    alloc: Global,
-    road: &Road,
-    plan: &Plan,
-    stage: usize,
-    out: &mut Vec<u8>,
-) -> Result<(), AllocError>
-    requires accepted { road_fault road.now ≡ None }
-    requires fits { Fits road.now plan.now }
-    requires admissible { IsAdmissible road.now plan.now }
-    ensures { IfOk result (λ _. Adds (earthwork_of_stage road.now plan.now stage) out.old.items out.new.items) }
-{
-    Listing::Earthwork.push_all(alloc, road, plan, stage, out)
-}
-
-/// Adds what is cut and filled in all stages.
-fn push_earthworks(
-    alloc: Global,
-    road: &Road,
-    plan: &Plan,
-    out: &mut Vec<u8>,
-) -> Result<(), AllocError>
-    requires accepted { road_fault road.now ≡ None }
-    requires fits { Fits road.now plan.now }
-    requires admissible { IsAdmissible road.now plan.now }
-    ensures { IfOk result (λ _. Adds (flat_to (earthwork_of_stage road.now plan.now) road.now.stages) out.old.items out.new.items) }
-{
-    for before in 0..road.stages {
-        push_earthwork_of_stage(alloc, road, plan, before + 1, out)?;
-    }
-    Ok(())
-}
-
-/// Adds the table of cut and fill.
-fn push_earthwork_table(
-    alloc: Global,
-    road: &Road,
-    plan: &Plan,
-    out: &mut Vec<u8>,
-) -> Result<(), AllocError>
-    requires accepted { road_fault road.now ≡ None }
-    requires fits { Fits road.now plan.now }
-    requires admissible { IsAdmissible road.now plan.now }
-    ensures { IfOk result (λ _. Adds (earthwork_table road.now plan.now) out.old.items out.new.items) }
-{
-    push_heading("earthwork", "stage,section,cut,fill", out)?;
-    push_earthworks(alloc, road, plan, out)
 }
 
 /// Adds what is hauled to the left and over access roads in a stage.
@@ -130,51 +77,6 @@ fn push_hauls_of_stage(
 {
     Listing::Right.push_all(alloc, road, plan, stage, out)?;
     push_hauls_back(alloc, road, plan, stage, out)
-}
-
-/// Adds what is hauled in all stages.
-fn push_hauls(alloc: Global, road: &Road, plan: &Plan, out: &mut Vec<u8>) -> Result<(), AllocError>
-    requires accepted { road_fault road.now ≡ None }
-    requires fits { Fits road.now plan.now }
-    requires admissible { IsAdmissible road.now plan.now }
-    ensures { IfOk result (λ _. Adds (flat_to (hauls_of_stage road.now plan.now) road.now.stages) out.old.items out.new.items) }
-{
-    for before in 0..road.stages {
-        push_hauls_of_stage(alloc, road, plan, before + 1, out)?;
-    }
-    Ok(())
-}
-
-/// Adds the table of hauls.
-fn push_haul_table(
-    alloc: Global,
-    road: &Road,
-    plan: &Plan,
-    out: &mut Vec<u8>,
-) -> Result<(), AllocError>
-    requires accepted { road_fault road.now ≡ None }
-    requires fits { Fits road.now plan.now }
-    requires admissible { IsAdmissible road.now plan.now }
-    ensures { IfOk result (λ _. Adds (haul_table road.now plan.now) out.old.items out.new.items) }
-{
-    push_heading("haul", "stage,from,to,litres", out)?;
-    push_hauls(alloc, road, plan, out)
-}
-
-/// Adds the table of blocks.
-fn push_blocks_table(
-    alloc: Global,
-    road: &Road,
-    plan: &Plan,
-    out: &mut Vec<u8>,
-) -> Result<(), AllocError>
-    requires accepted { road_fault road.now ≡ None }
-    requires fits { Fits road.now plan.now }
-    requires admissible { IsAdmissible road.now plan.now }
-    ensures { IfOk result (λ _. Adds (blocks_table road.now plan.now) out.old.items out.new.items) }
-{
-    push_heading("blocks", "block,section,stage", out)?;
-    Listing::Blocks.push_all(alloc, road, plan, 0, out)
 }
 
 /// Adds the row of a cost.
@@ -242,8 +144,8 @@ fn push_costs(
     push_cost(alloc, plan, "total", whole_cost(totals), out)
 }
 
-/// Adds the table of costs.
-fn push_costs_table(
+/// Adds the rows of all costs of an admissible plan.
+fn push_all_costs(
     alloc: Global,
     road: &Road,
     plan: &Plan,
@@ -252,62 +154,140 @@ fn push_costs_table(
     requires accepted { road_fault road.now ≡ None }
     requires fits { Fits road.now plan.now }
     requires admissible { IsAdmissible road.now plan.now }
-    ensures { IfOk result (λ _. Adds (costs_table road.now plan.now) out.old.items out.new.items) }
+    ensures { IfOk result (λ _. Adds (all_cost_lines road.now plan.now) out.old.items out.new.items) }
 {
-    push_heading("costs", "item,cost", out)?;
     push_costs(alloc, plan, cost_totals(road, plan), out)
 }
 
-/// Adds the tables of blocks and costs.
-fn push_last_tables(
+impl Table {
+    fn name(self) -> &'static str
+        ensures { result.now ≡ table_name self }
+    {
+        match self {
+            Table::Profile => "profile",
+            Table::Earthwork => "earthwork",
+            Table::Haul => "haul",
+            Table::Blocks => "blocks",
+            Table::Costs => "costs",
+            Table::Mass => "mass",
+            Table::Zones => "zones",
+            Table::Moment => "moment",
+        }
+    }
+
+    fn header(self) -> &'static str
+        ensures { result.now ≡ table_header self }
+    {
+        match self {
+            Table::Profile => "section,station,metres,ground,height,offset,net",
+            Table::Earthwork => "stage,section,cut,fill",
+            Table::Haul => "stage,from,to,litres",
+            Table::Blocks => "block,section,stage",
+            Table::Costs => "item,cost",
+            Table::Mass => "stage,hop,from,to,net",
+            Table::Zones => "stage,from,to,direction,peak",
+            Table::Moment => "stage,litremetres",
+        }
+    }
+
+    /// How many parts the records have: one for each stage, or one for all of them.
+    fn part_count(self, road: &Road) -> usize
+        ensures { result ≡ part_count road.now self }
+    {
+        match self {
+            Table::Earthwork | Table::Haul | Table::Mass | Table::Zones | Table::Moment => {
+                road.stages
+            }
+            Table::Profile | Table::Blocks | Table::Costs => 1,
+        }
+    }
+
+    /// Adds the records of a part.
+    #[tactic(auto, unfolding(crate::specs::inside::Tables::part_lines, crate::specs::Reports::earthwork_of_stage, crate::specs::inside::Listings::listing_lines, crate::specs::inside::Listings::entry_lines))]
+    fn push_part(
+        self,
+        alloc: Global,
+        road: &Road,
+        plan: &Plan,
+        part: usize,
+        out: &mut Vec<u8>,
+    ) -> Result<(), AllocError>
+        requires accepted { road_fault road.now ≡ None }
+        requires fits { Fits road.now plan.now }
+        requires admissible { IsAdmissible road.now plan.now }
+        requires part { IsNumber part (part_count road.now self) }
+        ensures { IfOk result (λ _. Adds (part_lines road.now plan.now self part) out.old.items out.new.items) }
+    {
+        match self {
+            Table::Profile => Listing::Profile.push_all(alloc, road, plan, part, out),
+            Table::Earthwork => Listing::Earthwork.push_all(alloc, road, plan, part, out),
+            Table::Haul => push_hauls_of_stage(alloc, road, plan, part, out),
+            Table::Blocks => Listing::Blocks.push_all(alloc, road, plan, part, out),
+            Table::Costs => push_all_costs(alloc, road, plan, out),
+            Table::Mass => push_nets(alloc, road, plan, part, out),
+            Table::Zones => push_zones(alloc, road, plan, part, out),
+            Table::Moment => push_moment(alloc, road, plan, part, out),
+        }
+    }
+
+    /// Adds the records of all parts.
+    fn push_records(
+        self,
+        alloc: Global,
+        road: &Road,
+        plan: &Plan,
+        out: &mut Vec<u8>,
+    ) -> Result<(), AllocError>
+        requires accepted { road_fault road.now ≡ None }
+        requires fits { Fits road.now plan.now }
+        requires admissible { IsAdmissible road.now plan.now }
+        ensures { IfOk result (λ _. Adds (flat_to (part_lines road.now plan.now self) (part_count road.now self)) out.old.items out.new.items) }
+    {
+        for before in 0..self.part_count(road) {
+            self.push_part(alloc, road, plan, before + 1, out)?;
+        }
+        Ok(())
+    }
+
+    /// Adds the table: its name, its header and its records.
+    fn push(
+        self,
+        alloc: Global,
+        road: &Road,
+        plan: &Plan,
+        out: &mut Vec<u8>,
+    ) -> Result<(), AllocError>
+        requires accepted { road_fault road.now ≡ None }
+        requires fits { Fits road.now plan.now }
+        requires admissible { IsAdmissible road.now plan.now }
+        ensures { IfOk result (λ _. Adds (table_lines road.now plan.now self) out.old.items out.new.items) }
+    {
+        push_heading(self.name(), self.header(), out)?;
+        self.push_records(alloc, road, plan, out)
+    }
+}
+
+/// Adds tables of an admissible plan, one behind the other.
+fn push_tables(
     alloc: Global,
     road: &Road,
     plan: &Plan,
+    tables: &[Table],
     out: &mut Vec<u8>,
 ) -> Result<(), AllocError>
     requires accepted { road_fault road.now ≡ None }
     requires fits { Fits road.now plan.now }
     requires admissible { IsAdmissible road.now plan.now }
-    ensures { IfOk result (λ _. Adds (blocks_table road.now plan.now ++ costs_table road.now plan.now) out.old.items out.new.items) }
+    ensures { IfOk result (λ _. Adds (flat_map (table_lines road.now plan.now) tables.now) out.old.items out.new.items) }
 {
-    push_blocks_table(alloc, road, plan, out)?;
-    push_costs_table(alloc, road, plan, out)
+    for table in tables {
+        table.push(alloc, road, plan, out)?;
+    }
+    Ok(())
 }
 
-/// Adds the tables of hauls, blocks and costs.
-fn push_later_tables(
-    alloc: Global,
-    road: &Road,
-    plan: &Plan,
-    out: &mut Vec<u8>,
-) -> Result<(), AllocError>
-    requires accepted { road_fault road.now ≡ None }
-    requires fits { Fits road.now plan.now }
-    requires admissible { IsAdmissible road.now plan.now }
-    ensures { IfOk result (λ _. Adds (haul_table road.now plan.now ++ (blocks_table road.now plan.now ++ costs_table road.now plan.now)) out.old.items out.new.items) }
-{
-    push_haul_table(alloc, road, plan, out)?;
-    push_last_tables(alloc, road, plan, out)
-}
-
-/// Adds the tables of what is moved and paid.
-fn push_work_tables(
-    alloc: Global,
-    road: &Road,
-    plan: &Plan,
-    out: &mut Vec<u8>,
-) -> Result<(), AllocError>
-    requires accepted { road_fault road.now ≡ None }
-    requires fits { Fits road.now plan.now }
-    requires admissible { IsAdmissible road.now plan.now }
-    ensures { IfOk result (λ _. Adds (earthwork_table road.now plan.now ++ (haul_table road.now plan.now ++ (blocks_table road.now plan.now ++ costs_table road.now plan.now))) out.old.items out.new.items) }
-{
-    push_earthwork_table(alloc, road, plan, out)?;
-    push_later_tables(alloc, road, plan, out)
-}
-
-/// Adds all tables of an admissible plan.
-pub(crate) fn push_tables(
+/// Adds the tables of a report.
+pub(crate) fn push_plan_tables(
     alloc: Global,
     road: &Road,
     plan: &Plan,
@@ -318,6 +298,28 @@ pub(crate) fn push_tables(
     requires admissible { IsAdmissible road.now plan.now }
     ensures { IfOk result (λ _. Adds (plan_tables road.now plan.now) out.old.items out.new.items) }
 {
-    push_profile_table(alloc, road, plan, out)?;
-    push_work_tables(alloc, road, plan, out)
+    let tables = [
+        Table::Profile,
+        Table::Earthwork,
+        Table::Haul,
+        Table::Blocks,
+        Table::Costs,
+    ];
+    push_tables(alloc, road, plan, &tables, out)
+}
+
+/// Adds the tables of a mass diagram.
+pub(crate) fn push_mass_tables(
+    alloc: Global,
+    road: &Road,
+    plan: &Plan,
+    out: &mut Vec<u8>,
+) -> Result<(), AllocError>
+    requires accepted { road_fault road.now ≡ None }
+    requires fits { Fits road.now plan.now }
+    requires admissible { IsAdmissible road.now plan.now }
+    ensures { IfOk result (λ _. Adds (mass_tables road.now plan.now) out.old.items out.new.items) }
+{
+    let tables = [Table::Mass, Table::Zones, Table::Moment];
+    push_tables(alloc, road, plan, &tables, out)
 }

@@ -10,7 +10,7 @@ ghost use Rattle.report.specs.Reports.{said_line, sizes_text, leaves_text, bound
 
 use crate::cells::{bound_text, cost_text, gap_text, leaves_text, sizes_text};
 use crate::lines::{push_line, push_said};
-use crate::tables::{push_tables, whole_cost};
+use crate::tables::{push_plan_tables, whole_cost};
 use crate::{Findings, OpenLeaves};
 use numbers::Frac;
 use plan_rules::{Plan, cost_totals};
@@ -98,7 +98,7 @@ fn push_found_tables(
 {
     match found {
         Findings::NoPlan | Findings::Bounded { .. } => Ok(()),
-        Findings::Planned { plan, .. } => push_tables(alloc, road, plan, out),
+        Findings::Planned { plan, .. } => push_plan_tables(alloc, road, plan, out),
     }
 }
 

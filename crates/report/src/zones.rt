@@ -6,7 +6,7 @@ ghost use Rattle.road_types.specs.Numbered.{IsNumber};
 ghost use Rattle.road_types.specs.Road.{hop_count};
 ghost use Rattle.plan_rules.specs.Fits.{Fits};
 ghost use Rattle.report.specs.Lines.{Adds};
-ghost use Rattle.report.specs.inside.Diagrams.{HasModerateHauls};
+ghost use Rattle.report.specs.inside.Hauls.{HasModerateHauls};
 ghost use Rattle.report.specs.Mass.{ordinate, goes, same_way, direction_of, direction_text, first_of, peak_of, zone_in, zones_at, zones_of, zone_line, zones_of_stage};
 
 use crate::cells::{number, over_den};

@@ -4,6 +4,7 @@ use Rattle.std.specs.Prelude.{ℕ, List, [], ◌∷◌, codes, ℤ, ◌+ℤ◌}
 use Rattle.algebra.specs.Lists.{flat_to}
 use Rattle.road_types.specs.Road.{section_count, hop_count, access_count, block_count}
 use Rattle.road_types.specs.declared.road.Road.{Road}
+use Rattle.plan_rules.specs.Costs.{cut_total, fill_total, haul_total, access_total, removal_total}
 use Rattle.plan_rules.specs.declared.plan.Plan.{Plan}
 use Rattle.report.specs.Lines.{Line}
 use Rattle.report.specs.Reports.{profile_line, earthwork_lines, right_lines, left_lines, access_lines, block_line, cost_line}
@@ -42,3 +43,7 @@ cost_lines plan cut fill haul access removal =
     ∷ cost_line plan (codes "removal") removal
     ∷ cost_line plan (codes "total") ((((cut +ℤ fill) +ℤ haul) +ℤ access) +ℤ removal)
     ∷ []
+
+-- the costs of a plan and their sum
+abbrev pub all_cost_lines : Road → Plan → List Line
+all_cost_lines road plan = cost_lines plan (cut_total road plan) (fill_total road plan) (haul_total road plan) (access_total road plan) (removal_total road plan)

@@ -1,7 +1,12 @@
-use Rattle.report.specs.Reports.{plan_tables}
-use Rattle.report.proofs.LinesLemmas.{ok_gives, both_added}
+use Rattle.report.specs.inside.Tables.{table_lines}
+use Rattle.report.specs.declared.tables.Table.TheVariants.{Profile}
+use Rattle.report.proofs.LinesLemmas.{nothing_added}
+use Rattle.report.proofs.TablesLemmas.{one_more_table}
 use Rattle.report.proofs.tables.push_tables.Goals as goal
 
-pub returns : goal.returns
-unfolding plan_tables
-returns c = ok_gives c.push_work_tables.result c.push_work_tables.ensures (λ h. both_added _ _ _ _ _ c.in_ok-push_profile_table.ensures h)
+pub loop-table-init : goal.loop-table-init
+loop-table-init c = nothing_added _
+
+pub loop-table-preserved : goal.loop-table-preserved
+loop-table-preserved c =
+    one_more_table (table_lines c.args.road.now c.args.plan.now) c.args.tables.now c.loop-table.table-index Profile _ _ _ c.loop-table-test.true c.loop-table.invariant c.in_ok-push.ensures

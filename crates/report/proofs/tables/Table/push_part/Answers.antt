@@ -1,6 +1,6 @@
 use Rattle.road_types.proofs.AcceptedRoad.{IsAccepted-from_fault}
 use Rattle.report.proofs.MassLemmas.{payable_hauls}
-use Rattle.report.proofs.mass.Diagram.push_stage.Goals as goal
+use Rattle.report.proofs.tables.Table.push_part.Goals as goal
 
 pub push_moment-requires-clause-well_formed : goal.push_moment-requires-clause-well_formed
 push_moment-requires-clause-well_formed c = (IsAccepted-from_fault c.args.road.now c.requires.accepted).well_formed
