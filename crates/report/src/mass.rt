@@ -1,12 +1,11 @@
 // The mass diagram of a plan.
-ghost use Rattle.std.specs.Prelude.{◌≡◌, ◌∷◌, [], ◌+◌, ◌<◌, ◌≤◌, ◌^◌, ◌*◌, ◌*ℤ◌, ◌+ℤ◌, ◌-ℤ◌, pos, IfOk, OnErr, IfSome, None, Some, ℕ, unsigned_abs};
+ghost use Rattle.std.specs.Prelude.{◌≡◌, ◌∷◌, [], ◌+◌, ◌<◌, ◌≤◌, ◌^◌, ◌*◌, ◌*ℤ◌, ◌+ℤ◌, ◌-ℤ◌, pos, IfOk, OnErr, IfSome, None, ℕ, unsigned_abs};
 ghost use Rattle.algebra.specs.Sums.{sum_to};
 ghost use Rattle.road_types.specs.Faults.{road_fault};
 ghost use Rattle.road_types.specs.Numbered.{IsNumber};
 ghost use Rattle.road_types.specs.Road.{section, hop_count};
 ghost use Rattle.road_types.specs.WellFormed.{IsWellFormed};
 ghost use Rattle.plan_rules.specs.Fits.{Fits};
-ghost use Rattle.plan_rules.specs.Plans.{amount};
 ghost use Rattle.plan_rules.specs.Rules.{IsAdmissible};
 ghost use Rattle.report.specs.Lines.{Adds};
 ghost use Rattle.report.specs.Mass.{ordinate, surplus, hop_moment, moment, mass_line, moment_line, mass_of_stage, mass_lines, AreZones, zones_of};

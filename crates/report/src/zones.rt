@@ -1,13 +1,10 @@
 // The zones of one direction of a mass diagram.
-ghost use Rattle.std.specs.Prelude.{◌≡◌, ◌∷◌, [], ◌+◌, ◌<◌, ◌≤◌, ◌^◌, max, pos, map, IfOk, None, Some, if◌then◌else◌, unsigned_abs};
-ghost use Rattle.std.specs.String.{string_bytes};
+ghost use Rattle.std.specs.Prelude.{◌≡◌, ◌∷◌, [], ◌+◌, ◌<◌, ◌^◌, max, map, IfOk, None, Some, if◌then◌else◌, unsigned_abs};
 ghost use Rattle.road_types.specs.Faults.{road_fault};
-ghost use Rattle.road_types.specs.Numbered.{IsNumber};
-ghost use Rattle.road_types.specs.Road.{hop_count};
 ghost use Rattle.plan_rules.specs.Fits.{Fits};
 ghost use Rattle.report.specs.Lines.{Adds};
 ghost use Rattle.report.specs.inside.Hauls.{HasModerateHauls};
-ghost use Rattle.report.specs.Mass.{ordinate, goes, same_way, direction_of, direction_text, first_of, peak_of, zone_in, zones_at, zones_of, zone_line, zones_of_stage};
+ghost use Rattle.report.specs.Mass.{ordinate, goes, same_way, direction_of, direction_text, first_of, peak_of, zone_in, zones_at, zone_line, zones_of_stage};
 
 use crate::cells::{number, over_den};
 use crate::lines::push_row;
