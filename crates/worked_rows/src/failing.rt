@@ -149,7 +149,11 @@ static WRITING: [Due; 6] = [
     Due {
         name: "carry on two sections",
         words: &["carry", "road", "given", "cert"],
-        files: &[("road", PAIR_ROAD_DEARER), ("given", PAIR_CERT), ("cert", OLD)],
+        files: &[
+            ("road", PAIR_ROAD_DEARER),
+            ("given", PAIR_CERT),
+            ("cert", OLD),
+        ],
         reads: 2,
         puts: 1,
         status: Status::Done,
