@@ -1,9 +1,8 @@
 -- What a carried plan and a carried tree make together.
-use Rattle.std.proofs.Common.{◌≡◌, ℕ, Option, Some, None, Bool, true, false, List, refl, sym, ap, subst, ◌∙◌}
-use Rattle.std.specs.Prelude.{ℤ, Result, Ok, Err, IfOk}
+use Rattle.std.proofs.Common.{◌≡◌, Option, Some, None, refl, sym, ap, subst}
+use Rattle.std.specs.Prelude.{Result, Ok, Err, IfOk}
 use Rattle.numbers.specs.Fractions.{Fraction}
 use Rattle.road_types.specs.Faults.{road_fault}
-use Rattle.road_types.specs.Accepted.{IsAccepted}
 use Rattle.road_types.proofs.AcceptedRoad.{IsAccepted-from_fault}
 use Rattle.road_types.specs.declared.road.Road.{Road}
 use Rattle.road_types.specs.RoadPrograms.{row_count}

@@ -1,5 +1,5 @@
 -- The multipliers of a leaf after an ascent, as they are written down.
-use Rattle.std.proofs.Common.{◌≡◌, ℕ, ◌≤◌, List, length, take, sym, ap, subst, arith, ◌∙◌, inl, inr, ⊎_elim}
+use Rattle.std.proofs.Common.{◌≡◌, ℕ, List, length, sym, ap, subst, arith, ◌∙◌, inl, inr, ⊎_elim}
 use Rattle.std.specs.Prelude.{ℤ, ◌<ℤ◌, Result, Ok, Err, IfOk}
 use Rattle.std.proofs.lemmas.List.{take_all}
 use Rattle.programs.specs.Programs.{Program, row_count}
@@ -9,7 +9,6 @@ use Rattle.road_types.specs.declared.road.Road.{Road}
 use Rattle.milp_builder.specs.BoxPrograms.{box_program}
 use Rattle.milp_builder.specs.declared.boxes.BoxRange.{BoxRange}
 use Rattle.cert_tree.specs.Trees.{AreMultipliersBehind}
-use Rattle.cert_tree.specs.Soundness.{told_value}
 use Rattle.cert_tree.specs.Written.{IsWritten}
 use Rattle.cert_tree.specs.Proving.{AreSigned}
 use Rattle.cert_tree.proofs.LeafLemmas.{are_multipliers}

@@ -1,12 +1,11 @@
 -- The cost of a carried certificate and its bound can be stated.
-use Rattle.std.proofs.Common.{◌≡◌, ◌≢◌, ℕ, ◌*◌, ◌≤◌, ◌<◌, ◌^◌, Option, Some, None, List, refl, arith, ⊎_elim}
-use Rattle.std.specs.Prelude.{ℤ, pos, ◌*ℤ◌, ◌≤ℤ◌, unsigned_abs, IsSome, IfSome}
+use Rattle.std.proofs.Common.{◌≢◌, ℕ, ◌≤◌, ◌^◌, Option, Some, None, List, refl, arith, ⊎_elim}
+use Rattle.std.specs.Prelude.{ℤ, pos, unsigned_abs}
 use Rattle.std.proofs.Math.Nat.{mul-le-mul_left}
 use Rattle.std.proofs.lemmas.Int.{ints}
 use Rattle.algebra.specs.Scale.{IsScale, greatest_scale}
 use Rattle.algebra.proofs.Magnitudes.{unsigned_abs_le}
-use Rattle.programs.specs.Weights.{weight}
-use Rattle.numbers.specs.Fractions.{Fraction, IsLowest, IsReduced, HasValue}
+use Rattle.numbers.specs.Fractions.{Fraction, IsLowest, HasValue}
 use Rattle.road_types.specs.Accepted.{IsAccepted}
 use Rattle.road_types.specs.declared.road.Road.{Road}
 use Rattle.road_types.specs.RoadPrograms.{row_count}
@@ -15,7 +14,6 @@ use Rattle.plan_rules.specs.declared.verdict.Rule.{Rule}
 use Rattle.plan_rules.specs.Rules.{IsAdmissible, IsFirstBroken}
 use Rattle.plan_rules.specs.Costs.{cost_of}
 use Rattle.plan_text.specs.PlanText.{HasText}
-use Rattle.safe_bounds.specs.Values.{AreMultipliers}
 use Rattle.safe_bounds.proofs.ValueWidths.{value_width}
 use Rattle.milp_builder.specs.Boxes.{IsBoxOf}
 use Rattle.milp_builder.specs.BoxPrograms.{box_program}

@@ -1,5 +1,5 @@
 -- What of a tree stays when it is carried: its splits, its widths, that each leaf proves what it can, and that it has a text.
-use Rattle.std.proofs.Common.{◌≡◌, ℕ, zero, suc, Option, Some, None, Bool, true, false, ◌||◌, List, refl, sym, ap, subst, ◌∙◌, ⊎_elim}
+use Rattle.std.proofs.Common.{◌≡◌, ℕ, zero, suc, Option, Some, None, Bool, true, false, ◌||◌, List, refl, sym, ap, subst, ⊎_elim}
 use Rattle.std.specs.Prelude.{ℤ, ◌<ℤ◌, pos}
 use Rattle.algebra.specs.Scale.{IsScale}
 use Rattle.programs.specs.Programs.{row_count as program_row_count}
@@ -7,9 +7,8 @@ use Rattle.numbers.specs.Fractions.{Fraction}
 use Rattle.road_types.specs.declared.road.Road.{Road}
 use Rattle.road_types.specs.RoadPrograms.{row_count}
 use Rattle.milp_builder.specs.BoxPrograms.{box_program}
-use Rattle.milp_builder.specs.Parts.{IsSplitOf, first_part, second_part, AreParts}
+use Rattle.milp_builder.specs.Parts.{IsSplitOf, first_part, second_part}
 use Rattle.milp_builder.specs.declared.boxes.BoxRange.{BoxRange}
-use Rattle.milp_builder.specs.declared.boxes.Split.{Split}
 use Rattle.cert_tree.specs.Trees.{BoxTree, low, dead, fork, AreMultipliersBehind, IsWithinWidths}
 use Rattle.cert_tree.specs.Soundness.{SplitsFit, box_value, has_low}
 use Rattle.cert_tree.specs.LeastBounds.{IsOfSomeLeaf, IsLeastOfLeaves}
@@ -17,7 +16,7 @@ use Rattle.cert_tree.specs.Proving.{AreSigned, HasProvingLeaves}
 use Rattle.cert_tree.proofs.LeafLemmas.{box_rows}
 use Rattle.cert_text.specs.NodeText.{IsSpelledTree, IsSpelledSplit}
 use Rattle.cert_text.specs.Validity.{IsBoundRight}
-use Rattle.carried_bounds.specs.Carried.{AreCarried, IsCarriedTree}
+use Rattle.carried_bounds.specs.Carried.{IsCarriedTree}
 
 -- multipliers on the rows of a box stand on the road's
 on_road : (road : Road) (box : BoxRange) (mults : List (ℕ × ℤ)) → AreMultipliersBehind (program_row_count (box_program road box)) 0 mults → AreMultipliersBehind (row_count road) 0 mults
