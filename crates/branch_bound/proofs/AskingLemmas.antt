@@ -1,9 +1,6 @@
 -- What the functions that look for the split of a point need, said of a road without a fault: one lemma for each step.
 use Rattle.std.proofs.Common.{◌≡◌, ℕ, ◌+◌, ◌-◌, ◌<◌, ◌⊎◌, Option, None, Some, List, length, get_or, sym, subst, arith, ⊎_elim}
 use Rattle.std.specs.Prelude.{ℤ, pos, ◌≤ℤ◌, ◌<ℤ◌, MatchOption}
-use Rattle.std.proofs.lemmas.Int.{ints}
-use Rattle.algebra.specs.Scale.{greatest_scale}
-use Rattle.algebra.proofs.Order.{int_lt_or_le}
 use Rattle.algebra.proofs.NumberedLemmas.{numbered_at}
 use Rattle.programs.specs.Points.{IsPoint}
 use Rattle.road_types.specs.Numbered.{IsNumber}
@@ -19,7 +16,6 @@ use Rattle.road_points.specs.Shown.{IsExactAt, HasExactVolumes}
 use Rattle.road_points.proofs.FormsHold.{tables_of}
 use Rattle.milp_builder.specs.Boxes.{IsBoxOf}
 use Rattle.milp_builder.specs.BoxPrograms.{box_program}
-use Rattle.milp_builder.specs.Comparing.{IsComparable, greatest_comparable}
 use Rattle.milp_builder.specs.FoundPlans.{IsPartRemoval, IsOtherVolume}
 use Rattle.milp_builder.specs.declared.boxes.BoxRange.{BoxRange}
 use Rattle.milp_builder.specs.declared.boxes.Split.TheVariants.{Removal, Height}
@@ -36,10 +32,10 @@ pub removal_is_asked : (road : Road) (box : BoxRange) (den : ℤ) (point : List 
     → IsPoint (box_program road box) den point → IsPartRemoval road den point k t → IsAsked road box den point (Removal k t)
 removal_is_asked road box den point k t h fits d p r = removal_asked road (IsAccepted-from_fault road h) box fits den d point p k t r
 
-pub height_is_asked : (road : Road) (box : BoxRange) (den : ℤ) (point : List ℤ) (i : ℕ) (at : ℤ) → road_fault road ≡ None → IsBoxOf road box → IsComparable den
+pub height_is_asked : (road : Road) (box : BoxRange) (den : ℤ) (point : List ℤ) (i : ℕ) (at : ℤ) → road_fault road ≡ None → IsBoxOf road box → pos 1 ≤ℤ den
     → IsPoint (box_program road box) den point → IsOtherVolume road den point i
     → IsInnerBreakpoint (section road i) (height_range box.heights i) at → IsAsked road box den point (Height i at)
-height_is_asked road box den point i at h fits d p v b = height_asked road (IsAccepted-from_fault road h) box fits den d.from_one point p i at v b
+height_is_asked road box den point i at h fits d p v b = height_asked road (IsAccepted-from_fault road h) box fits den d point p i at v b
 
 pub tables_at : (road : Road) (den : ℤ) (point : List ℤ) (i : ℕ) → road_fault road ≡ None → IsOtherVolume road den point i → HasSlabTables (section road i)
 tables_at road den point i h v = tables_of road (well_formed_of road h) i v.number
@@ -49,9 +45,9 @@ pub some_inside : (road : Road) (box : BoxRange) (den : ℤ) (point : List ℤ) 
     → (HasBreakpointInside (section road i) (height_range box.heights i) → ⊥) → ⊥
 some_inside road box den point i h fits d p v none = none (inside_of road (IsAccepted-from_fault road h) box fits den d point p i v)
 
-pub inside_at : (road : Road) (box : BoxRange) (den : ℤ) (point : List ℤ) (i : ℕ) → road_fault road ≡ None → IsBoxOf road box → IsComparable den
+pub inside_at : (road : Road) (box : BoxRange) (den : ℤ) (point : List ℤ) (i : ℕ) → road_fault road ≡ None → IsBoxOf road box → pos 1 ≤ℤ den
     → IsPoint (box_program road box) den point → IsOtherVolume road den point i → HasBreakpointInside (section road i) (height_range box.heights i)
-inside_at road box den point i h fits d p v = inside_of road (IsAccepted-from_fault road h) box fits den d.from_one point p i v
+inside_at road box den point i h fits d p v = inside_of road (IsAccepted-from_fault road h) box fits den d point p i v
 
 pub section_number : (road : Road) (den : ℤ) (point : List ℤ) (i : ℕ) → IsOtherVolume road den point i → IsNumber i (section_count road)
 section_number road den point i v = v.number
@@ -61,17 +57,6 @@ height_number road box den point i fits v = subst (IsNumber i) (sym fits.heights
 
 pub range_at : (heights : List (ℤ × ℤ)) (i : ℕ) → IsNumber i (length heights) → get_or heights (i - 1) (pos 0, pos 0) ≡ height_range heights i
 range_at heights i n = sym (numbered_at (pos 0, pos 0) heights i n.from_one)
-
--- a number from 1 that isn't past the limit
-pub comparable : (den : ℤ) → pos 1 ≤ℤ den → (pos greatest_comparable <ℤ den → ⊥) → IsComparable den
-comparable den one h = record {
-  from_one = one;
-  at_most = ⊎_elim (λ l. absurd (h l)) (λ (l : den ≤ℤ pos greatest_comparable). l) (int_lt_or_le (pos greatest_comparable) den);
-}
-
--- a denominator past the limit isn't a plan's
-pub past_plans : {P : Type 0} (den : ℤ) → pos greatest_comparable <ℤ den → den ≤ℤ pos greatest_scale → P
-past_plans den past plan = absurd (omega (arith, ints, past, plan))
 
 -- ---- the split of heights that scores best
 
@@ -97,7 +82,7 @@ pub best_of_all : (road : Road) (box : BoxRange) (den : ℤ) (point : List ℤ) 
 best_of_all road box den point count None c h = record { each = λ i n. h i (subst (IsNumber i) (sym c) n) }
 best_of_all road box den point count (Some best) c h = h
 
-pub best_is_asked : (road : Road) (box : BoxRange) (den : ℤ) (point : List ℤ) (best : Candidate) → road_fault road ≡ None → IsBoxOf road box → IsComparable den
+pub best_is_asked : (road : Road) (box : BoxRange) (den : ℤ) (point : List ℤ) (best : Candidate) → road_fault road ≡ None → IsBoxOf road box → pos 1 ≤ℤ den
     → IsPoint (box_program road box) den point → IsAskedHeight road box den point best → IsAsked road box den point (Height best.section best.at)
 best_is_asked road box den point best h fits d p b = height_is_asked road box den point best.section best.at h fits d p b.other b.inside
 

@@ -9,7 +9,7 @@ use Rattle.programs.specs.Programs.{Program, row_count}
 use Rattle.safe_bounds.specs.Values.{IsMultiplier, AreMultipliers, HasRightSigns}
 use Rattle.safe_bounds.specs.Narrowing.{AreNarrow, IsNarrowed}
 use Rattle.road_types.specs.declared.road.Road.{Road}
-use Rattle.road_points.specs.Shown.{HasWholeRemovals}
+use Rattle.road_points.specs.Shown.{HasWholeRemovals, HasExactVolumes}
 use Rattle.milp_builder.specs.BoxPrograms.{box_program}
 use Rattle.milp_builder.specs.declared.boxes.BoxRange.{BoxRange}
 use Rattle.milp_builder.specs.declared.boxes.Split.{Split}
@@ -124,9 +124,9 @@ module _ (road : Road) (best : Option Best) (box : BoxRange) (optimum : Optimum)
       solved_same road best box solved b same
       (leaf_from road (best_cost best) box solved.leaf (waiting_leaf waiting) (e ∙ ap (λ (w : Waiting). waiting_leaf w) l) tt good)
 
-  pub denominator_solved : HasWholeRemovals road optimum.den optimum.point → pos greatest_scale <ℤ optimum.den
+  pub denominator_solved : HasWholeRemovals road optimum.den optimum.point → HasExactVolumes road optimum.den optimum.point → pos greatest_scale <ℤ optimum.den
       → IsStopOf road box proved (Limit optimum.trail optimum.den) (grown_of solved.leaf) → IsSolvedBox road best box solved
-  denominator_solved whole past e =
+  denominator_solved whole exact past e =
       let t = o.own_optimum.tableau in
       let own = o.own_optimum.own in
       solved_same road best box solved b same
@@ -137,7 +137,7 @@ module _ (road : Road) (best : Option Best) (box : BoxRange) (optimum : Optimum)
             o.own_optimum.reached,
             record {
               past = past;
-              which = inr (inl (record { optimal = o.own_optimum.optimal; point = optimum.point; own_point = o.own_optimum.own_point; whole = whole }));
+              which = inr (inl (record { optimal = o.own_optimum.optimal; point = optimum.point; own_point = o.own_optimum.own_point; whole = whole; exact = exact }));
             },
           ),
           (own.own_scale, own.own_mults),

@@ -33,7 +33,7 @@ not_broken road plan rule stage place h b = b.broken.not_kept (h.keeps rule stag
 pub some_plan : (road : Road) (box : BoxRange) (den : ℤ) (point : List ℤ) → IsScale den → AsksForNothing road den point
     → IsFoundPlan road box den point None → ⊥
 some_plan road box den point d asked h =
-    let exact = asked.exact d.at_most in
+    let exact = asked.exact in
     ⊎_elim
     (λ p. let r = p.1.1 in r.not_whole (asked.whole.each p.0 p.1.0 r.block r.from_two r.at_most))
     (λ o. let v = o.1.0 in v.not_exact (exact.each o.0 v.number))

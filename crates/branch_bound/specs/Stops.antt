@@ -48,12 +48,13 @@ pub record IsRayPastLimit (program : Program) (t : Tableau) (number : ℤ) : Typ
   pub narrowed : IsNarrowed number (ray_of t row broken) narrow_scale narrow_mults
   pub shows_nothing : value_of program (pos 0) narrow_mults ≤ℤ pos 0
 
--- the number is the denominator of an optimal point with whole removals
+-- the number is the denominator of an optimal point with whole removals and exact volumes
 pub record IsDenominatorPastLimit (road : Road) (t : Tableau) (number : ℤ) : Type 0 where
   pub optimal : IsOptimal t
   pub point : List ℤ
   pub own_point : IsPointOf t number point
   pub whole : HasWholeRemovals road number point
+  pub exact : HasExactVolumes road number point
 
 -- the certificate has a plan that costs at most the point over its denominator
 abbrev pub HasPlanWithin : Option Fraction → Program → ℤ → List ℤ → Type 0

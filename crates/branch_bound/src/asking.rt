@@ -1,6 +1,5 @@
 // The split for which the optimum of a box's program asks.
 ghost use Rattle.std.specs.Prelude.{◌≡◌, ◌↔◌, None, IsTrue, MatchOption, length, ◌+◌, ◌<◌, pos, ◌≤ℤ◌};
-ghost use Rattle.algebra.specs.Scale.{greatest_scale};
 ghost use Rattle.programs.specs.Points.{IsPoint};
 ghost use Rattle.road_types.specs.Faults.{road_fault};
 ghost use Rattle.road_types.specs.Numbered.{IsNumber};
@@ -12,20 +11,18 @@ ghost use Rattle.volume_lines.specs.InnerBreakpoints.{HasBreakpointInside};
 ghost use Rattle.volume_lines.specs.SlabTables.{HasSlabTables};
 ghost use Rattle.milp_builder.specs.Boxes.{IsBoxOf};
 ghost use Rattle.milp_builder.specs.BoxPrograms.{box_program};
-ghost use Rattle.milp_builder.specs.Comparing.{IsComparable};
 ghost use Rattle.milp_builder.specs.FoundPlans.{IsOtherVolume};
 ghost use Rattle.branch_bound.specs.inside.Asking.{IsAsked, AsksForNothing};
 ghost use Rattle.branch_bound.specs.inside.Splitting.{IsInnerBreakpoint, IsAskedHeight, IsBestOf};
 
 use crate::scores::{Place, rounded};
 use crate::splitting::{Candidate, Ranked, best_breakpoint, better_of};
-use milp_builder::{
-    BoxRange, GREATEST_COMPARABLE, Split, is_exact_at, moved_volume, part_removal, shown,
-};
+use milp_builder::{BoxRange, Split, part_removal, shown};
 use road_types::{Column, Road};
+use wide_volumes::{is_exact_at, moved_volume};
 
 /// The split for which a point asks: that of a removal, and else that of a section's heights. Where there is none, removals are
-/// whole, and over the denominator of a plan volumes are exact.
+/// whole and volumes exact.
 pub(crate) fn asked_split(road: &Road, range: &BoxRange, den: i128, point: &[i128]) -> Option<Split>
     requires accepted { road_fault road.now ≡ None }
     requires fits { IsBoxOf road.now range.now }
@@ -35,24 +32,6 @@ pub(crate) fn asked_split(road: &Road, range: &BoxRange, den: i128, point: &[i12
 {
     if let Some(split) = removal_split(road, range, den, point) {
         return Some(split);
-    }
-    match compared_split(road, range, den, point) {
-        Some(split) => Some(split),
-        None => None,
-    }
-}
-
-/// The split of a section's heights, where volumes can be compared over the denominator.
-#[tactic(auto, using(crate::proofs::AskingLemmas::comparable, crate::proofs::AskingLemmas::past_plans))]
-fn compared_split(road: &Road, range: &BoxRange, den: i128, point: &[i128]) -> Option<Split>
-    requires accepted { road_fault road.now ≡ None }
-    requires fits { IsBoxOf road.now range.now }
-    requires den { pos 1 ≤ℤ den }
-    requires point { IsPoint (box_program road.now range.now) den point.now }
-    ensures { MatchOption result (den ≤ℤ pos greatest_scale → HasExactVolumes road.now den point.now) (λ split. IsAsked road.now range.now den point.now split) }
-{
-    if den > GREATEST_COMPARABLE {
-        return None;
     }
     match height_split(road, range, den, point) {
         Some(split) => Some(split),
@@ -81,7 +60,7 @@ fn removal_split(road: &Road, range: &BoxRange, den: i128, point: &[i128]) -> Op
 fn height_split(road: &Road, range: &BoxRange, den: i128, point: &[i128]) -> Option<Split>
     requires accepted { road_fault road.now ≡ None }
     requires fits { IsBoxOf road.now range.now }
-    requires den { IsComparable den }
+    requires den { pos 1 ≤ℤ den }
     requires point { IsPoint (box_program road.now range.now) den point.now }
     ensures { MatchOption result (HasExactVolumes road.now den point.now) (λ split. IsAsked road.now range.now den point.now split) }
 {
@@ -99,7 +78,7 @@ fn height_split(road: &Road, range: &BoxRange, den: i128, point: &[i128]) -> Opt
 fn best_height(road: &Road, range: &BoxRange, den: i128, point: &[i128]) -> Option<Candidate>
     requires accepted { road_fault road.now ≡ None }
     requires fits { IsBoxOf road.now range.now }
-    requires den { IsComparable den }
+    requires den { pos 1 ≤ℤ den }
     requires point { IsPoint (box_program road.now range.now) den point.now }
     ensures { MatchOption result (HasExactVolumes road.now den point.now) (λ best. IsAskedHeight road.now range.now den point.now best) }
 {
@@ -123,7 +102,7 @@ fn best_with(
     requires well_formed { IsWellFormed road.now }
     requires accepted { road_fault road.now ≡ None }
     requires fits { IsBoxOf road.now range.now }
-    requires den { IsComparable den }
+    requires den { pos 1 ≤ℤ den }
     requires point { IsPoint (box_program road.now range.now) den point.now }
     requires before { before < section_count road.now }
     requires best { IsBestOf road.now range.now den point.now before best }
@@ -140,7 +119,7 @@ fn best_with(
 fn is_exact(road: &Road, range: &BoxRange, den: i128, point: &[i128], number: usize) -> bool
     requires accepted { road_fault road.now ≡ None }
     requires fits { IsBoxOf road.now range.now }
-    requires den { IsComparable den }
+    requires den { pos 1 ≤ℤ den }
     requires point { IsPoint (box_program road.now range.now) den point.now }
     requires number { IsNumber number (section_count road.now) }
     ensures { IsTrue result ↔ IsExactAt road.now den point.now number }
@@ -159,7 +138,7 @@ fn candidate_at(
 ) -> Candidate
     requires accepted { road_fault road.now ≡ None }
     requires fits { IsBoxOf road.now range.now }
-    requires den { IsComparable den }
+    requires den { pos 1 ≤ℤ den }
     requires point { IsPoint (box_program road.now range.now) den point.now }
     requires other { IsOtherVolume road.now den point.now number }
     ensures { IsAskedHeight road.now range.now den point.now result }
@@ -173,17 +152,18 @@ fn candidate_at(
     }
 }
 
-/// Where a point shows a section.
+/// About where a point shows a section: a score alone rests on it.
 #[tactic(auto, using(crate::proofs::AskingLemmas::well_formed_of))]
 fn place_at(road: &Road, range: &BoxRange, den: i128, point: &[i128], number: usize) -> Place
     requires accepted { road_fault road.now ≡ None }
     requires fits { IsBoxOf road.now range.now }
-    requires den { IsComparable den }
+    requires den { pos 1 ≤ℤ den }
     requires point { IsPoint (box_program road.now range.now) den point.now }
 {
+    let moved = moved_volume(road, point, number).narrow();
     rounded(
         shown(road, point, Column::Offset { section: number }),
-        moved_volume(road, point, number),
+        moved.unwrap_or(i128::MAX),
         den,
     )
 }

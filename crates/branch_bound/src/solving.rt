@@ -32,7 +32,7 @@ use crate::work::{Optimum, Proved, Reason, Waiting, Work};
 use algebra::GREATEST_SCALE;
 use best_first::is_at_most;
 use cert_tree::written;
-use milp_builder::{BoxRange, GREATEST_COMPARABLE, Split, build, plan_of};
+use milp_builder::{BoxRange, Split, build, plan_of};
 use numbers::{Frac, W64, W128};
 use plan_rules::{Plan, Verdict, judge};
 use programs::Milp;
@@ -328,7 +328,7 @@ fn leaf_of_optimum(
         return Ok(waiting_leaf(range, split, Reason::Asked { optimum }, proved));
     }
     if optimum.den > GREATEST_SCALE {
-        return Ok(past_plans(road, range, optimum, proved));
+        return Ok(past_plans(optimum, proved));
     }
     match plan_found(alloc, road, &range, optimum.den, optimum.point.as_slice()) {
         Ok(found) => Ok(whole_leaf(optimum, proved, found, best)),
@@ -339,18 +339,11 @@ fn leaf_of_optimum(
     }
 }
 
-/// The leaf of an optimum with whole removals whose denominator is past those of plans: a stop where volumes can't be compared over
-/// it, and else a plan that no certificate holds.
-fn past_plans(road: &Road, range: BoxRange, optimum: Optimum, proved: Proved) -> Work
-    requires accepted { road_fault road.now ≡ None }
-    requires fits { IsBoxOf road.now range }
-    ensures { IsStopOf road.now range proved (Limit optimum.trail optimum.den) (grown_of result) }
+/// The leaf of an optimum that asks for no split and whose denominator is past those of plans: a plan that no certificate holds.
+fn past_plans(optimum: Optimum, proved: Proved) -> Work
+    ensures { grown_of result ≡ stopped_leaf proved (Limit optimum.trail optimum.den) }
 {
     let den = optimum.den;
-    if den > GREATEST_COMPARABLE {
-        let split = split_at(road, &range, den, optimum.point.as_slice());
-        return stop_of(split, range, proved, limit_note(optimum, den));
-    }
     limit_leaf(optimum, proved, den)
 }
 

@@ -1,12 +1,12 @@
 // How a program ends, told in words.
 ghost use Rattle.std.specs.Prelude.{◌≤◌};
 
-use numbers::Whole;
+use numbers::Narrow;
 use simplex::{Lp, LpEnd, Used, solve, solve_either};
 use std::alloc::{AllocError, Global};
 
 /// The end in one range of numbers.
-pub(crate) fn end_in<W: Whole>(
+pub(crate) fn end_in<W: Narrow>(
     alloc: Global,
     lp: &Lp,
     budget: u32,
@@ -26,7 +26,7 @@ pub(crate) fn end_in<W: Whole>(
 }
 
 /// The end in the first of two ranges of numbers, or else in the second, and which of them it is.
-pub(crate) fn end_in_either<N: Whole, M: Whole>(
+pub(crate) fn end_in_either<N: Narrow, M: Narrow>(
     alloc: Global,
     lp: &Lp,
     budget: u32,

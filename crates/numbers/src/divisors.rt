@@ -23,8 +23,8 @@ pub(crate) fn gcd_word(a: u64, b: u64) -> u64
     if y == 0 { x } else { 1 }
 }
 
-/// The greatest common divisor; as soon as both numbers are below 2^64 it divides 64-bit numbers.
-pub(crate) fn gcd_wide(a: u128, b: u128) -> u128
+/// The greatest common divisor, 0 of 0 and 0; as soon as both numbers are below 2^64 it divides 64-bit numbers.
+pub fn magnitude_gcd(a: u128, b: u128) -> u128
     ensures greatest { IsGcd a b result }
     ensures within { result ≤ max a b }
 {
@@ -61,7 +61,7 @@ pub(crate) fn lowest_terms(a: u128, b: u128) -> (u128, u128)
     ensures lowest { IsGcd result.0 result.1 1 }
     ensures positive { 0 < result.1 }
 {
-    let divisor = gcd_wide(a, b);
+    let divisor = magnitude_gcd(a, b);
     (a / divisor, b / divisor)
 }
 

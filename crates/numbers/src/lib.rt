@@ -9,7 +9,8 @@ mod w128;
 mod w64;
 mod whole;
 
+pub use divisors::magnitude_gcd;
 pub use fraction::{Frac, common_den};
 pub use w64::W64;
 pub use w128::W128;
-pub use whole::Whole;
+pub use whole::{Narrow, Whole};

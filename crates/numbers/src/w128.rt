@@ -1,9 +1,9 @@
 ghost use Rattle.std.specs.Prelude.{◌^◌, ◌-◌, ◌<◌, unsigned_abs, refl};
 ghost use Rattle.std.proofs.Common.{arith, rules};
 
-use crate::divisors::gcd_wide;
+use crate::divisors::magnitude_gcd;
 use crate::products::{is_word, word_product};
-use crate::whole::Whole;
+use crate::whole::{Narrow, Whole};
 use std::cmp::Ordering;
 
 /// The whole numbers of magnitude at most 2^127 - 1.
@@ -38,8 +38,12 @@ impl Whole for W128 {
         }
     }
 
-    fn wide(self) -> i128 {
-        self.value
+    fn narrow(self) -> Option<i128> {
+        Some(self.value)
+    }
+
+    fn size(self) -> u128 {
+        self.value.unsigned_abs()
     }
 
     fn times(self, other: W128) -> Option<W128> {
@@ -80,7 +84,7 @@ impl Whole for W128 {
     }
 
     fn gcd(self, other: W128) -> W128 {
-        let divisor = gcd_wide(self.value.unsigned_abs(), other.value.unsigned_abs());
+        let divisor = magnitude_gcd(self.value.unsigned_abs(), other.value.unsigned_abs());
         W128 {
             value: divisor as i128,
         }
@@ -95,6 +99,12 @@ impl Whole for W128 {
     ghost holds_all = { λ z h. (record { value = z; in_range = Prim.omega arith }, refl) };
 
     ghost at_least_one = { Prim.search rules };
+}
+
+impl Narrow for W128 {
+    fn wide(self) -> i128 {
+        self.value
+    }
 
     ghost below_wide = { Prim.search rules };
 }

@@ -3,7 +3,7 @@ ghost use Rattle.std.proofs.Common.{arith, rules};
 
 use crate::divisors::gcd_word;
 use crate::products::word_product_difference;
-use crate::whole::Whole;
+use crate::whole::{Narrow, Whole};
 use std::cmp::Ordering;
 
 /// The whole numbers of magnitude at most 2^63 - 1.
@@ -42,8 +42,12 @@ impl Whole for W64 {
         }
     }
 
-    fn wide(self) -> i128 {
-        self.value as i128
+    fn narrow(self) -> Option<i128> {
+        Some(self.value as i128)
+    }
+
+    fn size(self) -> u128 {
+        self.value.unsigned_abs() as u128
     }
 
     fn times(self, other: W64) -> Option<W64> {
@@ -92,6 +96,12 @@ impl Whole for W64 {
     ghost holds_all = { λ z h. (record { value = z; in_range = Prim.omega arith }, refl) };
 
     ghost at_least_one = { Prim.search rules };
+}
+
+impl Narrow for W64 {
+    fn wide(self) -> i128 {
+        self.value as i128
+    }
 
     ghost below_wide = { Prim.search rules };
 }

@@ -32,9 +32,13 @@ pub trait Whole: Copy {
         ensures some { IsSome result ↔ (unsigned_abs v ≤ greatest) }
         ensures value { IfSome result (λ x. meaning x ≡ v) };
 
-    /// The number in 128 bits.
-    fn wide(self) -> i128
-        ensures { result ≡ meaning self };
+    /// The number in 128 bits; `None` exactly where its magnitude is above 2^127 - 1.
+    fn narrow(self) -> Option<i128>
+        ensures some { IsSome result ↔ (unsigned_abs (meaning self) < 2 ^ 127) }
+        ensures value { IfSome result (λ v. v ≡ meaning self) };
+
+    /// About the magnitude, for guesses: nothing is claimed of it.
+    fn size(self) -> u128;
 
     /// The product.
     fn times(self, other: Self) -> Option<Self>
@@ -52,7 +56,7 @@ pub trait Whole: Copy {
         ensures value { IfSome result (λ x. meaning x ≡ meaning self -ℤ meaning other) };
 
     /// The difference of two products, `self * factor - other * by`; also `None` where a product is of
-    /// magnitude above 2^127 - 1, which none of two numbers of magnitude up to 2^63 is.
+    /// a magnitude above both the greatest and 2^127 - 1, which none of two numbers of magnitude up to 2^63 is.
     fn product_difference(self, factor: Self, other: Self, by: Self) -> Option<Self>
         ensures some { IsSome result
             ↔ HasDifference (meaning self) (meaning factor) (meaning other) (meaning by) greatest }
@@ -89,7 +93,14 @@ pub trait Whole: Copy {
 
     // -1, 0 and 1 are numbers of every type
     ghost at_least_one: { 1 ≤ greatest };
+}
+
+/// A type of whole numbers all of which have 128 bits at most.
+pub trait Narrow: Whole {
+    /// The number in 128 bits.
+    fn wide(self) -> i128
+        ensures { result ≡ Self.meaning self };
 
     // every number, and its magnitude, fits 128 bits
-    ghost below_wide: { greatest < 2 ^ 127 };
+    ghost below_wide: { Self.greatest < 2 ^ 127 };
 }

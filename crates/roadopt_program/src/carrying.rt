@@ -1,5 +1,6 @@
 // `carry ROAD CERT NEW` on an accepted road.
 ghost use Rattle.std.specs.Prelude.{◌≡◌, ℕ, List, IfOk, Some, None};
+ghost use Rattle.std.specs.String.{string_bytes};
 ghost use Rattle.road_types.specs.Faults.{road_fault};
 ghost use Rattle.cert_checker.specs.Carriable.{IsCarriableCert, IsNoCarriableText, IsFirstCarryRefusal};
 ghost use Rattle.cert_checker.specs.Refusals.{refused};
@@ -33,7 +34,6 @@ pub(crate) fn carry_bytes(alloc: Global, road: &Road, bytes: &[u8]) -> Result<Ma
 }
 
 /// The end for a certificate whose bound can be carried.
-#[tactic(auto, using(crate::proofs::CarryLemmas::carried_made))]
 fn carry_cert(alloc: Global, road: &Road, bytes: &[u8], given: &Cert) -> Result<Made, AllocError>
     requires accepted { road_fault road.now ≡ None }
     requires carriable { IsCarriableCert road.now bytes.now given.now }
@@ -57,8 +57,6 @@ fn carried(cert: Cert, text: Vec<u8>, line: String) -> Made
         found: Some(Product::Carried { cert }),
     }
 }
-
-ghost use Rattle.std.specs.String.{string_bytes};
 
 /// The end for bytes that are the text of no certificate whose bound can be carried.
 #[tactic(auto, using(crate::proofs::CarryLemmas::refused_made))]

@@ -42,10 +42,10 @@ pub struct Answer {
 /// Runs the program over a store and a sink; `words` are those of the command line, without the program's name.
 ///
 /// `Usage` where they aren't `judge ROAD PLAN`, `check ROAD CERT`, `replay ROAD CERT`, `solve ROAD CERT`, `trial NUMBER`, `carry ROAD CERT NEW` or
-/// `mass ROAD CERT`. /// Else the road file is read, then the section table that it names, then the plan or the certificate, and the line for it, its report or its
-/// mass diagram is printed; or the road is searched, the certificate that was found is written to CERT, and its report is printed; or the bound of
-/// the certificate is carried to this road's costs, and the certificate with it is written to NEW. The first thing that is wrong on
-/// this way is the end. `NoMemory` may come at any step before anything is written or printed.
+/// `mass ROAD CERT`. Else the road file is read, then the section table that it names, then the plan or the certificate, and the line for it,
+/// its report or its mass diagram is printed; or the road is searched, the certificate that was found is written to CERT, and its report is
+/// printed; or the bound of the certificate is carried to this road's costs, the certificate with it is written to NEW, and its cost and bound
+/// are printed. The first thing that is wrong on this way is the end. `NoMemory` may come at any step before anything is written or printed.
 #[tactic(auto, using(crate::proofs::RunLaws::usage_as_due, crate::proofs::DueLaws::one_end, crate::proofs::HeadlineLaws::usage_solve, crate::proofs::HeadlineLaws::usage_trial, crate::proofs::HeadlineLaws::usage_solve_answers, crate::proofs::HeadlineLaws::usage_trial_answers, crate::proofs::HeadlineLaws::usage_carry, crate::proofs::HeadlineLaws::usage_carry_answers))]
 pub fn run<S: Store, O: Sink>(alloc: Global, words: &[String], store: &mut S, out: &mut O) -> Answer
     // The words, before anything is read.

@@ -187,6 +187,10 @@ wide_coordinate t greatest den j laws optimal least first last wide =
       wide (coordinates t laws den least.clears) p,
     )
 
+-- the denominator itself out of range
+pub wide_denominator : (t : Tableau) (greatest : ℕ) (den : ℤ) → IsOptimal t → IsLeastDenominator t t.given.rows den → greatest < unsigned_abs den → IsOutOfRange greatest t (Join t.given.rows)
+wide_denominator t greatest den optimal least wide = (den, record { optimal = optimal; row = omega arith; value = inl least }, wide)
+
 -- ---- one numerator
 
 numerator_closes : (e q g r r' d m n x : ℤ) → q *ℤ g ≡ e → r' *ℤ g ≡ r → m *ℤ q ≡ d → n ≡ r' *ℤ m → x ≡ neg_ℤ n → e *ℤ x +ℤ d *ℤ r ≡ pos 0

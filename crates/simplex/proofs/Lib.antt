@@ -1,6 +1,7 @@
 pub mod Outcomes
 pub mod Reducing
 pub mod Preparing
+pub mod Retries
 pub mod Swapping
 pub mod Steps
 pub mod Keeping

@@ -10,7 +10,7 @@ use Rattle.tableau.specs.declared.bound.Bound.{Bound}
 use Rattle.tableau.specs.declared.bound.Bound.TheVariants.{Lower, Upper}
 use Rattle.sparse_rows.specs.Lines.{entry_of, IsLine}
 use Rattle.sparse_rows.proofs.LinesLemmas.{IsRest, rest_none, rest_taken, next_from, next_end, next_entry, line_from, none_left, entry_below}
-use Rattle.simplex.specs.inside.Choices.{MayEnter, IsAtMost, IsChosen, IsWideRatio}
+use Rattle.simplex.specs.inside.Choices.{MayEnter, IsAtMost, IsChosen}
 
 same_or_not : (i k : ℕ) → (i ≡ k) ⊎ (i ≢ k)
 same_or_not i k = grind arith
@@ -67,13 +67,6 @@ at_most x y no_lt = ⊎_elim (λ (p : x < y). absurd (no_lt p)) (λ (p : y ≤ x
 
 same_at_most : (a' a b' b c' c d' d : ℕ) → a' ≡ a → b' ≡ b → c' ≡ c → d' ≡ d → a' * b' ≤ c' * d' → a * b ≤ c * d
 same_at_most a' a b' b c' c d' d e f g i l = subst (λ (x : ℕ). x * b ≤ c * d) e (subst (λ (x : ℕ). a' * x ≤ c * d) f (subst (λ (x : ℕ). a' * b' ≤ x * d) g (subst (λ (x : ℕ). a' * b' ≤ c' * x) i l)))
-
-same_wide : (n a' a b' b : ℕ) → a' ≡ a → b' ≡ b → n < a' * b' → n < a * b
-same_wide n a' a b' b e f w = subst (λ (x : ℕ). n < x * b) e (subst (λ (x : ℕ). n < a' * x) f w)
-
-not_wide : (greatest a b c d : ℕ) → b ≡ 0 → c ≡ 1 → d ≤ greatest → (greatest < a * b) ⊎ (greatest < c * d) → ⊥
-not_wide greatest a b c d e f l (inl w) = let z : a * b ≡ 0 = ap (λ x. a * x) e ∙ omega arith in omega arith
-not_wide greatest a b c d e f l (inr w) = let z : c * d ≡ d = ap (λ x. x * d) f ∙ omega arith in omega arith
 
 module _ {A : Type 0} (f : A → ℤ) (row costs : List (Term A)) (basic : ℕ) (low high : List A) (has_high at_high : List Bool) (broken : Bound) where
   abbrev pub Enters : ℕ → Type 0
@@ -243,23 +236,6 @@ module _ {A : Type 0} (f : A → ℤ) (row costs : List (Term A)) (basic : ℕ) 
               let bc = ap unsigned_abs s.1.0 in
               let be = ap unsigned_abs s.1.1 in
               same_at_most _ _ _ _ _ _ _ _ bc (sym v) c be (at_most _ _ not_less)
-
-      -- a cross product is out of range
-      pub best_wide : (greatest : ℕ) → unsigned_abs (f t.value) ≤ greatest → (greatest < unsigned_abs cost_here * unsigned_abs entry) ⊎ (greatest < unsigned_abs cost * unsigned_abs (f t.value)) → IsWideRatio f row basic low high has_high at_high greatest costs broken best t.column
-      best_wide greatest fits wide = ⊎_elim
-          (λ (z : best ≡ 0). let n = h.none z in absurd (not_wide greatest (unsigned_abs cost_here) (unsigned_abs entry) (unsigned_abs cost) (unsigned_abs (f t.value)) (ap unsigned_abs n.1.0 ∙ omega (arith, ints)) (ap unsigned_abs n.0 ∙ omega (arith, ints)) fits wide))
-          (λ (z : best ≢ 0).
-          let s = h.some z in
-          record {
-            enters = s.0;
-            other = enters;
-            differ = (let p = t_from in let q = h.before in λ e. omega arith);
-            wide = ⊎_elim
-                (λ (w : greatest < unsigned_abs cost_here * unsigned_abs entry). inr (same_wide _ _ _ _ _ (ap unsigned_abs is_cost) (ap unsigned_abs s.1.1) w))
-                (λ (w : greatest < unsigned_abs cost * unsigned_abs (f t.value)). inl (same_wide _ _ _ _ _ (ap unsigned_abs s.1.0) (ap unsigned_abs (sym t_entry)) w))
-                wide;
-          })
-          (same_or_not best 0)
 
   -- the row is walked to its end
   module _ (end a best : ℕ) (cost entry : ℤ) (h : IsBest end a best cost entry) (l : length row ≤ a) where

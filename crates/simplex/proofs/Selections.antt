@@ -1,7 +1,6 @@
 -- The choice in terms of lists is the choice in the tableau.
-use Rattle.std.proofs.Common.{◌≡◌, ℕ, ◌+◌, ◌-◌, ◌*◌, ◌≤◌, ◌<◌, ◌⊎◌, inl, inr, List, [], ◌∷◌, length, get_or, false, cond, arith, ap, sym, ◌∙◌, refl, subst, ⊎_elim}
+use Rattle.std.proofs.Common.{◌≡◌, ℕ, ◌+◌, ◌-◌, ◌≤◌, ◌<◌, ◌⊎◌, inl, inr, List, [], ◌∷◌, length, get_or, false, cond, arith, ap, sym, ◌∙◌, refl, subst, ⊎_elim}
 use Rattle.std.specs.Prelude.{ℤ, pos, ◌≢◌, ◌==◌, ◌+ℤ◌, ◌*ℤ◌, unsigned_abs, if◌then◌else◌}
-use Rattle.std.proofs.lemmas.Int.{ints}
 use Rattle.algebra.specs.Sums.{sum_to}
 use Rattle.algebra.proofs.SumsLemmas.{sum_to_ext}
 use Rattle.term_store.specs.declared.term.Term.{Term}
@@ -12,13 +11,13 @@ use Rattle.tableau.specs.Ends.{IsEmptyRow}
 use Rattle.tableau.specs.Operations.{IsOutOfRange}
 use Rattle.tableau.specs.declared.bound.Bound.{Bound}
 use Rattle.tableau.specs.declared.bound.Bound.TheVariants.{Lower, Upper}
-use Rattle.tableau.specs.declared.op.Op.TheVariants.{Value, Ratio}
+use Rattle.tableau.specs.declared.op.Op.TheVariants.{Value}
 use Rattle.sparse_rows.specs.Lines.{entry_of, IsLine}
 use Rattle.sparse_rows.specs.Sums.{meaning_at, standing_at, share}
 use Rattle.sparse_rows.proofs.LinesLemmas.{entry_past}
 use Rattle.simplex.specs.Givens.{given_of}
 use Rattle.simplex.specs.States.{State, tableau_of, KeepsLaws}
-use Rattle.simplex.specs.inside.Choices.{IsBroken, MayEnter, IsChosen, IsWideRatio, IsWideSum}
+use Rattle.simplex.specs.inside.Choices.{IsBroken, MayEnter, IsChosen, IsWideSum}
 use Rattle.simplex.proofs.Ratios.{toward_some}
 use Rattle.simplex.proofs.Breaks.{same_sign_at, opposite_sign_at}
 
@@ -147,24 +146,6 @@ module _ {A : Type 0} (f : A → ℤ) (s : State A) (h : KeepsLaws f s) (i : ℕ
       least = λ j e. chosen.least j (enters_of_eligible b j e);
       tie = inr (record { row = first; column = λ j e at_most. chosen.first j (enters_of_eligible b j e) at_most });
     }
-
-  pub wide_ratio : (b : Bound) (greatest j k : ℕ) → IsOutside (tableau_of f s) i b → IsWideRatio f (get_or s.lines i []) (get_or s.basis i 0) s.low s.high s.has_high s.at_high greatest (get_or s.lines 0 []) b j k
-      → IsOutOfRange greatest (tableau_of f s) (Ratio i j k)
-  wide_ratio b greatest j k outside w = ⊎_elim
-      (λ (p : greatest < unsigned_abs (entry_of f (get_or s.lines 0 []) j) * unsigned_abs (entry_of f (get_or s.lines i []) k)). (
-        pos (unsigned_abs (entry_of f (get_or s.lines 0 []) j) * unsigned_abs (entry_of f (get_or s.lines i []) k)),
-        record { broken = b; row = row; outside = outside; column = eligible_of_enters b j w.enters; other = eligible_of_enters b k w.other; differ = w.differ; value = inl (size_pos (unsigned_abs (entry_of f (get_or s.lines 0 []) j) * unsigned_abs (entry_of f (get_or s.lines i []) k))) },
-        subst (λ (n : ℕ). greatest < n) (sym (size_pos (unsigned_abs (entry_of f (get_or s.lines 0 []) j) * unsigned_abs (entry_of f (get_or s.lines i []) k)))) p,
-      ))
-      (λ (p : greatest < unsigned_abs (entry_of f (get_or s.lines 0 []) k) * unsigned_abs (entry_of f (get_or s.lines i []) j)). (
-        pos (unsigned_abs (entry_of f (get_or s.lines 0 []) k) * unsigned_abs (entry_of f (get_or s.lines i []) j)),
-        record { broken = b; row = row; outside = outside; column = eligible_of_enters b j w.enters; other = eligible_of_enters b k w.other; differ = w.differ; value = inr (size_pos (unsigned_abs (entry_of f (get_or s.lines 0 []) k) * unsigned_abs (entry_of f (get_or s.lines i []) j))) },
-        subst (λ (n : ℕ). greatest < n) (sym (size_pos (unsigned_abs (entry_of f (get_or s.lines 0 []) k) * unsigned_abs (entry_of f (get_or s.lines i []) j)))) p,
-      ))
-      w.wide
-    where
-      size_pos : (n : ℕ) → unsigned_abs (pos n) ≡ n
-      size_pos n = omega (arith, ints)
 
   pub wide_sum : (greatest j : ℕ) → 1 ≤ j → j < length s.low → IsWideSum f (get_or s.lines i []) (get_or s.basis i 0) s.low s.high s.has_high s.at_high greatest j → IsOutOfRange greatest (tableau_of f s) (Value i j)
   wide_sum greatest j first l w =

@@ -4,12 +4,12 @@ ghost use Rattle.std.specs.List.{swap};
 ghost use Rattle.sparse_rows.specs.Lines.{IsLine};
 ghost use Rattle.simplex.specs.inside.Rows.{IsRestood, IsStood};
 
-use numbers::Whole;
+use numbers::Narrow;
 use sparse_rows::is_negative;
 use term_store::{Rows, Term};
 
 /// Exchanges each marked row with its spare one.
-pub(crate) fn swap_in<W: Whole>(lines: &mut Rows<W>, marks: &[bool])
+pub(crate) fn swap_in<W: Narrow>(lines: &mut Rows<W>, marks: &[bool])
     requires { length lines.old.rows ≡ length marks.now + length marks.now }
     ensures count { length lines.new.rows ≡ length lines.old.rows }
     ensures width { lines.new.width ≡ lines.old.width }
@@ -23,7 +23,7 @@ pub(crate) fn swap_in<W: Whole>(lines: &mut Rows<W>, marks: &[bool])
 }
 
 /// Exchanges two rows where they are marked.
-fn swap_marked<W: Whole>(lines: &mut Rows<W>, k: usize, spare: usize, marked: bool)
+fn swap_marked<W: Narrow>(lines: &mut Rows<W>, k: usize, spare: usize, marked: bool)
     requires { (k < length lines.old.rows) × (spare < length lines.old.rows) }
     ensures rows { lines.new.rows ≡ (if marked then (swap lines.old.rows k spare) else lines.old.rows) }
     ensures width { lines.new.width ≡ lines.old.width }
@@ -45,7 +45,7 @@ pub(crate) fn stand(at_high: &mut [bool], leaving: usize, columns: usize, upper:
 }
 
 /// Puts each structural column at the bound that the sign of its cost entry asks for; where that is 0 it stays.
-pub(crate) fn restand<W: Whole>(costs: &[Term<W>], at_high: &mut [bool], columns: usize)
+pub(crate) fn restand<W: Narrow>(costs: &[Term<W>], at_high: &mut [bool], columns: usize)
     requires { columns < length at_high.old }
     ensures count { length at_high.new ≡ length at_high.old }
     ensures stood { (end : ℕ) → IsLine W.meaning 0 end costs.now → IsRestood W.meaning costs.now columns at_high.old at_high.new }

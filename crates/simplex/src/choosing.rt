@@ -15,7 +15,7 @@ use crate::choice::Choice;
 use crate::pricing::broken_bound;
 use crate::ratio_test::entering_column;
 use crate::table::Tableau;
-use numbers::{W128, Whole};
+use numbers::Narrow;
 use sparse_rows::{entry, is_zero};
 use tableau::{Bound, Exchange, Op};
 
@@ -40,7 +40,7 @@ fn larger(largest: (usize, Bound, u128), row: (usize, Bound, u128)) -> (usize, B
     row
 }
 
-impl<'a, W: Whole> Tableau<'a, W> {
+impl<'a, W: Narrow> Tableau<'a, W> {
     /// What is to be done next: the exchange of the least-numbered basic column outside while its ratio is 0, else one of a row
     /// far outside.
     pub(crate) fn choose(&self) -> Choice
@@ -53,28 +53,20 @@ impl<'a, W: Whole> Tableau<'a, W> {
         if first.0 == 0 {
             return Choice::Optimal;
         }
-        let column = match self.ratio_test(first.0, first.1) {
-            Ok(Some(column)) => column,
-            Ok(None) => {
-                return Choice::Empty {
-                    row: first.0,
-                    broken: first.1,
-                };
-            }
-            Err(op) => return Choice::Wide(op),
+        let Some(column) = self.ratio_test(first.0, first.1) else {
+            return Choice::Empty {
+                row: first.0,
+                broken: first.1,
+            };
         };
         if is_zero(entry(self.lines.row(0), column)) {
             return Choice::Good(exchange_of(first.0, column));
         }
-        let other = match self.ratio_test(largest.0, largest.1) {
-            Ok(Some(other)) => other,
-            Ok(None) => {
-                return Choice::Empty {
-                    row: largest.0,
-                    broken: largest.1,
-                };
-            }
-            Err(op) => return Choice::Wide(op),
+        let Some(other) = self.ratio_test(largest.0, largest.1) else {
+            return Choice::Empty {
+                row: largest.0,
+                broken: largest.1,
+            };
         };
         if is_zero(entry(self.lines.row(0), other)) {
             return Choice::Good(exchange_of(first.0, column));
@@ -114,7 +106,7 @@ impl<'a, W: Whole> Tableau<'a, W> {
         ensures wide { IfErr result (λ op. IsOutOfRange W.greatest (tableau_of W.meaning self.now) op) }
     {
         let basis = self.basis.as_slice();
-        match broken_bound::<W, W128>(
+        match broken_bound(
             self.lines.row(row),
             basis[row],
             &self.low,
@@ -131,17 +123,16 @@ impl<'a, W: Whole> Tableau<'a, W> {
     }
 
     /// The column that enters for a row outside.
-    fn ratio_test(&self, row: usize, broken: Bound) -> Result<Option<u32>, Op>
+    fn ratio_test(&self, row: usize, broken: Bound) -> Option<u32>
         requires row { IsRow (tableau_of W.meaning self.now) row }
         requires outside { IsOutside (tableau_of W.meaning self.now) row broken }
-        ensures chosen { IfOk result (λ o. IfSome o (λ c. IsChosen W.meaning (slice_index_or self.now.lines row []) (slice_index_or self.now.basis row 0)
-            self.now.low self.now.high self.now.has_high self.now.at_high (slice_index_or self.now.lines 0 []) broken c)) }
-        ensures few { IfOk result (λ o. IfSome o (λ c. c < 65536)) }
-        ensures none { IfOk result (λ o. IfNone o (IsEmptyRow (tableau_of W.meaning self.now) row broken)) }
-        ensures wide { IfErr result (λ op. IsOutOfRange W.greatest (tableau_of W.meaning self.now) op) }
+        ensures chosen { IfSome result (λ c. IsChosen W.meaning (slice_index_or self.now.lines row []) (slice_index_or self.now.basis row 0)
+            self.now.low self.now.high self.now.has_high self.now.at_high (slice_index_or self.now.lines 0 []) broken c) }
+        ensures few { IfSome result (λ c. c < 65536) }
+        ensures none { IfNone result (IsEmptyRow (tableau_of W.meaning self.now) row broken) }
     {
         let basis = self.basis.as_slice();
-        match entering_column::<W, W128>(
+        entering_column(
             self.lines.row(row),
             self.lines.row(0),
             basis[row],
@@ -150,14 +141,7 @@ impl<'a, W: Whole> Tableau<'a, W> {
             &self.has_high,
             &self.at_high,
             broken,
-        ) {
-            Ok(column) => Ok(column),
-            Err((column, other)) => Err(Op::Ratio {
-                row: row as u16,
-                col: column as u16,
-                other: other as u16,
-            }),
-        }
+        )
     }
 }
 

@@ -1,6 +1,9 @@
 // The point of an optimal tableau.
-ghost use Rattle.std.specs.Prelude.{◌≡◌, ◌≢◌, ◌+◌, ◌<◌, ◌≤◌, ℕ, ℤ, [], length, pos, vec_capacity, slice_index_or, IfOk, IfErr, IfSome, IfNone};
+ghost use Rattle.std.specs.Prelude.{◌≡◌, ◌≢◌, ◌⊎◌, ◌+◌, ◌-◌, ◌^◌, ◌<◌, ◌≤◌, ℕ, ℤ, [], length, pos, vec_capacity, slice_index_or, IfOk, IfErr, IfSome, IfNone, unsigned_abs};
 ghost use Rattle.algebra.specs.Numbered.{numbered};
+ghost use Rattle.algebra.specs.Sums.{sum_to};
+ghost use Rattle.sparse_rows.specs.Lines.{IsLine};
+ghost use Rattle.sparse_rows.specs.Sums.{share};
 ghost use Rattle.programs.specs.Programs.{column_count, row_count};
 ghost use Rattle.tableau.specs.Tableaux.{IsNonbasic, IsRow, basic_entry, rest, standing};
 ghost use Rattle.tableau.specs.Ends.{IsLeastDenominator, IsOptimal, IsPointOfTableau};
@@ -9,19 +12,21 @@ ghost use Rattle.simplex.specs.States.{tableau_of};
 
 use crate::joining::{cleared, joined};
 use crate::table::Tableau;
-use numbers::{W128, Whole};
+use numbers::{Narrow, W128, Whole};
 use sparse_rows::{entry, row_sum, standing, widened};
 use tableau::Op;
+use term_store::Term;
+use wide_whole::W256;
 
-impl<'a, W: Whole> Tableau<'a, W> {
+impl<'a, W: Narrow> Tableau<'a, W> {
     /// The sum of a row without its basic column. `Err` with an operation of it that is out of range.
-    pub(crate) fn rest(&self, row: usize) -> Result<W128, Op>
+    pub(crate) fn rest(&self, row: usize) -> Result<W256, Op>
         requires { IsRow (tableau_of W.meaning self.now) row }
-        ensures sum { IfOk result (λ z. ⟦<W128 as Whole>⟧.meaning z ≡ rest (tableau_of W.meaning self.now) row) }
+        ensures sum { IfOk result (λ z. ⟦<W256 as Whole>⟧.meaning z ≡ rest (tableau_of W.meaning self.now) row) }
         ensures wide { IfErr result (λ op. IsOutOfRange W.greatest (tableau_of W.meaning self.now) op) }
     {
         let basis = self.basis.as_slice();
-        match row_sum::<W, W128>(
+        match sum_of(
             self.lines.row(row),
             basis[row],
             &self.low,
@@ -46,13 +51,13 @@ impl<'a, W: Whole> Tableau<'a, W> {
     }
 
     /// The least common denominator of the basic values of an optimal tableau. `Err` with an operation that is out of range.
-    pub(crate) fn denominator(&self) -> Result<W128, Op>
+    pub(crate) fn denominator(&self) -> Result<W256, Op>
         requires { IsOptimal (tableau_of W.meaning self.now) }
-        ensures least { IfOk result (λ d. IsLeastDenominator (tableau_of W.meaning self.now) (row_count self.now.program) (⟦<W128 as Whole>⟧.meaning d)) }
+        ensures least { IfOk result (λ d. IsLeastDenominator (tableau_of W.meaning self.now) (row_count self.now.program) (⟦<W256 as Whole>⟧.meaning d)) }
         ensures wide { IfErr result (λ op. IsOutOfRange W.greatest (tableau_of W.meaning self.now) op) }
     {
         let rows = self.rows();
-        let mut den = W128::one();
+        let mut den = W256::one();
         for k in 0..rows {
             let row = k + 1;
             let rest = match self.rest(row) {
@@ -68,13 +73,13 @@ impl<'a, W: Whole> Tableau<'a, W> {
     }
 
     /// The coordinate of a structural column over the least common denominator. `Err` with an operation that is out of range.
-    fn coordinate(&self, den: W128, column: usize) -> Result<W128, Op>
+    fn coordinate(&self, den: W256, column: usize) -> Result<W256, Op>
         requires optimal { IsOptimal (tableau_of W.meaning self.now) }
-        requires least { IsLeastDenominator (tableau_of W.meaning self.now) (row_count self.now.program) (⟦<W128 as Whole>⟧.meaning den) }
+        requires least { IsLeastDenominator (tableau_of W.meaning self.now) (row_count self.now.program) (⟦<W256 as Whole>⟧.meaning den) }
         requires first { 1 ≤ column }
         requires last { column ≤ column_count self.now.program }
-        ensures value { IfOk result (λ z. (x : ℕ → ℤ) → IsPointOfTableau (tableau_of W.meaning self.now) (⟦<W128 as Whole>⟧.meaning den) x
-            → x column ≡ ⟦<W128 as Whole>⟧.meaning z) }
+        ensures value { IfOk result (λ z. (x : ℕ → ℤ) → IsPointOfTableau (tableau_of W.meaning self.now) (⟦<W256 as Whole>⟧.meaning den) x
+            → x column ≡ ⟦<W256 as Whole>⟧.meaning z) }
         ensures wide { IfErr result (λ op. IsOutOfRange W.greatest (tableau_of W.meaning self.now) op) }
     {
         match self.row_of(column) {
@@ -85,13 +90,13 @@ impl<'a, W: Whole> Tableau<'a, W> {
 
     /// The coordinate of the basic column of a row, a structural one, over the least common denominator. `Err` with an operation
     /// that is out of range.
-    fn basic_coordinate(&self, den: W128, row: usize) -> Result<W128, Op>
+    fn basic_coordinate(&self, den: W256, row: usize) -> Result<W256, Op>
         requires optimal { IsOptimal (tableau_of W.meaning self.now) }
-        requires least { IsLeastDenominator (tableau_of W.meaning self.now) (row_count self.now.program) (⟦<W128 as Whole>⟧.meaning den) }
+        requires least { IsLeastDenominator (tableau_of W.meaning self.now) (row_count self.now.program) (⟦<W256 as Whole>⟧.meaning den) }
         requires row { IsRow (tableau_of W.meaning self.now) row }
         requires structural { slice_index_or self.now.basis row 0 ≤ column_count self.now.program }
-        ensures value { IfOk result (λ z. (x : ℕ → ℤ) → IsPointOfTableau (tableau_of W.meaning self.now) (⟦<W128 as Whole>⟧.meaning den) x
-            → x (slice_index_or self.now.basis row 0) ≡ ⟦<W128 as Whole>⟧.meaning z) }
+        ensures value { IfOk result (λ z. (x : ℕ → ℤ) → IsPointOfTableau (tableau_of W.meaning self.now) (⟦<W256 as Whole>⟧.meaning den) x
+            → x (slice_index_or self.now.basis row 0) ≡ ⟦<W256 as Whole>⟧.meaning z) }
         ensures wide { IfErr result (λ op. IsOutOfRange W.greatest (tableau_of W.meaning self.now) op) }
     {
         let rows = self.rows();
@@ -107,14 +112,14 @@ impl<'a, W: Whole> Tableau<'a, W> {
 
     /// The coordinate of a structural column that isn't basic over the least common denominator. `Err` with an operation that is
     /// out of range.
-    fn standing_coordinate(&self, den: W128, column: usize) -> Result<W128, Op>
+    fn standing_coordinate(&self, den: W256, column: usize) -> Result<W256, Op>
         requires optimal { IsOptimal (tableau_of W.meaning self.now) }
-        requires least { IsLeastDenominator (tableau_of W.meaning self.now) (row_count self.now.program) (⟦<W128 as Whole>⟧.meaning den) }
+        requires least { IsLeastDenominator (tableau_of W.meaning self.now) (row_count self.now.program) (⟦<W256 as Whole>⟧.meaning den) }
         requires first { 1 ≤ column }
         requires last { column ≤ column_count self.now.program }
         requires nonbasic { IsNonbasic (tableau_of W.meaning self.now) column }
-        ensures value { IfOk result (λ z. (x : ℕ → ℤ) → IsPointOfTableau (tableau_of W.meaning self.now) (⟦<W128 as Whole>⟧.meaning den) x
-            → x column ≡ ⟦<W128 as Whole>⟧.meaning z) }
+        ensures value { IfOk result (λ z. (x : ℕ → ℤ) → IsPointOfTableau (tableau_of W.meaning self.now) (⟦<W256 as Whole>⟧.meaning den) x
+            → x column ≡ ⟦<W256 as Whole>⟧.meaning z) }
         ensures wide { IfErr result (λ op. IsOutOfRange W.greatest (tableau_of W.meaning self.now) op) }
     {
         let rows = self.rows();
@@ -144,25 +149,53 @@ impl<'a, W: Whole> Tableau<'a, W> {
 
     /// Puts the coordinates of the structural columns over the least common denominator into `point`, which has room for them.
     /// `Err` with an operation that is out of range.
-    pub(crate) fn fill_point(&self, den: W128, point: &mut Vec<i128>) -> Result<(), Op>
+    pub(crate) fn fill_point(&self, den: W256, point: &mut Vec<i128>) -> Result<(), Op>
         requires none { point.old.items ≡ [] }
         requires room { column_count self.now.program ≤ vec_capacity point.old }
         requires optimal { IsOptimal (tableau_of W.meaning self.now) }
-        requires least { IsLeastDenominator (tableau_of W.meaning self.now) (row_count self.now.program) (⟦<W128 as Whole>⟧.meaning den) }
+        requires least { IsLeastDenominator (tableau_of W.meaning self.now) (row_count self.now.program) (⟦<W256 as Whole>⟧.meaning den) }
         ensures capacity { vec_capacity point.new ≡ vec_capacity point.old }
         ensures count { IfOk result (λ _. length point.new.items ≡ column_count self.now.program) }
-        ensures coordinates { IfOk result (λ _. (x : ℕ → ℤ) → IsPointOfTableau (tableau_of W.meaning self.now) (⟦<W128 as Whole>⟧.meaning den) x
+        ensures coordinates { IfOk result (λ _. (x : ℕ → ℤ) → IsPointOfTableau (tableau_of W.meaning self.now) (⟦<W256 as Whole>⟧.meaning den) x
             → (j : ℕ) → 1 ≤ j → j ≤ column_count self.now.program → numbered (pos 0) point.new.items j ≡ x j) }
         ensures wide { IfErr result (λ op. IsOutOfRange W.greatest (tableau_of W.meaning self.now) op) }
     {
         let columns = self.columns();
+        let rows = self.rows();
         for k in 0..columns {
             match self.coordinate(den, k + 1) {
-                Ok(coordinate) => point.push_reserved(coordinate.wide()),
+                Ok(coordinate) => match coordinate.narrow() {
+                    Some(number) => point.push_reserved(number),
+                    None => return Err(Op::Join { row: rows as u16 }),
+                },
                 Err(op) => return Err(op),
             }
         }
         Ok(())
+    }
+}
+
+/// The sum of a row's entries, each times the bound at which its column stands, without the column `without`: in 128 bits, and in
+/// twice as many where those don't hold a number. `Err` with the column of a product, or of a sum up to it, that is out of their range.
+fn sum_of<W: Narrow>(
+    row: &[Term<W>],
+    without: u32,
+    low: &[W],
+    high: &[W],
+    at_high: &[bool],
+) -> Result<W256, u32>
+    requires high { length high.now ≡ length low.now }
+    requires at_high { length at_high.now ≡ length low.now }
+    requires line { IsLine W.meaning 1 (length low.now) row.now }
+    ensures sum { IfOk result (λ z. ⟦<W256 as Whole>⟧.meaning z
+        ≡ sum_to (share W.meaning row.now without low.now high.now at_high.now) (length low.now - 1)) }
+    ensures wide { IfErr result (λ column. (2 ^ 255 - 1 < unsigned_abs (share W.meaning row.now without low.now high.now at_high.now column))
+        ⊎ (2 ^ 255 - 1 < unsigned_abs (sum_to (share W.meaning row.now without low.now high.now at_high.now) column))) }
+    ensures column { IfErr result (λ column. (1 ≤ column) × (column < length low.now)) }
+{
+    match row_sum::<W, W128>(row, without, low, high, at_high) {
+        Ok(sum) => Ok(widened(sum)),
+        Err(_) => row_sum::<W, W256>(row, without, low, high, at_high),
     }
 }
 

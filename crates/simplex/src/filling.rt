@@ -8,7 +8,7 @@ ghost use Rattle.tableau.specs.Operations.{IsWideNumber};
 ghost use Rattle.simplex.specs.Starts.{cost_entry, start_entry};
 ghost use Rattle.simplex.specs.inside.Filled.{AreBounds, AreLines};
 
-use numbers::Whole;
+use numbers::Narrow;
 use programs::Milp;
 use sparse_rows::put;
 use std::alloc::{AllocError, Global};
@@ -33,7 +33,7 @@ fn column_bounds(milp: &Milp, j: usize) -> (i64, i64, bool)
 }
 
 /// Puts the bounds of all columns behind place 0, which is unused. `Err` with the column of a bound that is out of range.
-pub(crate) fn fill_bounds<W: Whole>(
+pub(crate) fn fill_bounds<W: Narrow>(
     milp: &Milp,
     low: &mut Vec<W>,
     high: &mut Vec<W>,
@@ -69,7 +69,7 @@ pub(crate) fn fill_bounds<W: Whole>(
 }
 
 /// Puts the cost row of the start in place of the terms of `line`. `Err` with the column of a cost that is out of range.
-fn fill_costs<W: Whole>(milp: &Milp, line: &mut Vec<Term<W>>) -> Result<(), usize>
+fn fill_costs<W: Narrow>(milp: &Milp, line: &mut Vec<Term<W>>) -> Result<(), usize>
     requires { column_count milp.now + 1 ≤ vec_capacity line.old }
     ensures line { IfOk result (λ _. IsFilled W.meaning line.new.items (column_count milp.now + 1) (cost_entry milp.now)) }
     ensures wide { IfErr result (λ j. IsWideNumber W.greatest (given_of milp.now) 0 j) }
@@ -91,7 +91,7 @@ fn fill_costs<W: Whole>(milp: &Milp, line: &mut Vec<Term<W>>) -> Result<(), usiz
 }
 
 /// Puts row `i` of the start in place of the terms of `line`. `Err` with the column of a coefficient that is out of range.
-fn fill_row<W: Whole>(milp: &Milp, i: usize, line: &mut Vec<Term<W>>) -> Result<(), usize>
+fn fill_row<W: Narrow>(milp: &Milp, i: usize, line: &mut Vec<Term<W>>) -> Result<(), usize>
     requires row { IsNumber i (row_count milp.now) }
     requires room { vec_capacity line.old ≡ column_count milp.now + row_count milp.now + 1 }
     ensures line { IfOk result (λ _. IsFilled W.meaning line.new.items (column_count milp.now + row_count milp.now + 1) (start_entry milp.now i)) }
@@ -118,7 +118,7 @@ fn fill_row<W: Whole>(milp: &Milp, i: usize, line: &mut Vec<Term<W>>) -> Result<
 
 /// Puts the rows of the start into a store, the cost row first, and as many empty rows behind them. `Err` with the row and
 /// the column of a number that is out of range.
-pub(crate) fn fill_lines<W: Whole>(
+pub(crate) fn fill_lines<W: Narrow>(
     milp: &Milp,
     line: &mut Vec<Term<W>>,
     lines: &mut Rows<W>,
@@ -154,7 +154,7 @@ pub(crate) fn fill_lines<W: Whole>(
 /// Takes room for the numbers of a program and puts them there: the bounds of all columns, and the rows of the start with as
 /// many empty ones behind them. `Err` inside with the row and the column of a number that is out of range. `AllocError`
 /// where that memory can't be had.
-pub(crate) fn fill_numbers<W: Whole>(
+pub(crate) fn fill_numbers<W: Narrow>(
     alloc: Global,
     milp: &Milp,
     low: &mut Vec<W>,

@@ -4,11 +4,11 @@ ghost use Rattle.numbers.specs.Divisors.{Divides};
 ghost use Rattle.simplex.specs.inside.Joins.{IsJoined};
 
 use crate::signs::magnitude;
-use numbers::Whole;
+use numbers::{Narrow, Whole};
 use sparse_rows::widened;
 
 /// The least multiple of a denominator by which `rest` over `pivot` is whole. `None` exactly where it is out of range.
-pub(crate) fn joined<W: Whole, T: Whole>(den: T, pivot: W, rest: T) -> Option<T>
+pub(crate) fn joined<W: Narrow, T: Whole>(den: T, pivot: W, rest: T) -> Option<T>
     requires wider { W.greatest ≤ T.greatest }
     requires positive { pos 0 <ℤ T.meaning den }
     requires nonzero { W.meaning pivot ≢ pos 0 }
@@ -23,7 +23,7 @@ pub(crate) fn joined<W: Whole, T: Whole>(den: T, pivot: W, rest: T) -> Option<T>
 
 /// The numerator over `den` of the number that makes `pivot` times it and `rest` 0; `den` is asked to clear it. `None` exactly
 /// where it is out of range.
-pub(crate) fn cleared<W: Whole, T: Whole>(den: T, pivot: W, rest: T) -> Option<T>
+pub(crate) fn cleared<W: Narrow, T: Whole>(den: T, pivot: W, rest: T) -> Option<T>
     requires wider { W.greatest ≤ T.greatest }
     requires nonzero { W.meaning pivot ≢ pos 0 }
     requires clears { Divides (W.meaning pivot) (T.meaning den *ℤ T.meaning rest) }

@@ -1,6 +1,7 @@
 //! The exact dual simplex over whole numbers of a range, on sparse rows.
 #![tactic(auto)]
 
+mod cells;
 mod changing;
 mod choice;
 mod choosing;

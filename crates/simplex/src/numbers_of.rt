@@ -4,13 +4,13 @@ ghost use Rattle.tableau.specs.Ends.{turned_by};
 ghost use Rattle.sparse_rows.specs.Lines.{IsLine, entry_of};
 ghost use Rattle.simplex.specs.inside.Slacks.{AreSlacks};
 
-use numbers::Whole;
+use numbers::Narrow;
 use sparse_rows::{entry, is_negative};
 use tableau::Bound;
 use term_store::Term;
 
 /// Puts the entries of a row at the slacks into `list`, which has room for them; each turned, where that is asked.
-pub(crate) fn fill_slacks<W: Whole>(
+pub(crate) fn fill_slacks<W: Narrow>(
     row: &[Term<W>],
     columns: usize,
     rows: usize,
@@ -29,7 +29,7 @@ pub(crate) fn fill_slacks<W: Whole>(
 }
 
 /// The number, or its opposite where it is turned.
-fn slack_value<W: Whole>(value: W, turns: bool) -> i128
+fn slack_value<W: Narrow>(value: W, turns: bool) -> i128
     ensures { result ≡ (if turns then (neg_ℤ (W.meaning value)) else (W.meaning value)) }
 {
     if turns {
@@ -40,7 +40,7 @@ fn slack_value<W: Whole>(value: W, turns: bool) -> i128
 }
 
 /// Whether the entries of an empty row are turned in its ray: from the bound that is broken, and the entry of the basic column.
-pub(crate) fn ray_turns<W: Whole>(broken: Bound, basic: W) -> bool
+pub(crate) fn ray_turns<W: Narrow>(broken: Bound, basic: W) -> bool
     ensures { (z : ℤ) → turned_by broken (W.meaning basic) z ≡ (if result then (neg_ℤ z) else z) }
 {
     match broken {

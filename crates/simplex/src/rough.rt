@@ -5,12 +5,12 @@ ghost use Rattle.tableau.specs.Tableaux.{IsRow};
 ghost use Rattle.simplex.specs.States.{tableau_of};
 
 use crate::table::Tableau;
-use numbers::Whole;
+use numbers::{Narrow, Whole};
 
 /// The parts of a unit in which rough numbers are told.
 const PARTS: i128 = 1_024;
 
-impl<'a, W: Whole> Tableau<'a, W> {
+impl<'a, W: Narrow> Tableau<'a, W> {
     /// Puts about what each structural column is into `rough`, which has room for it, in parts of a unit.
     pub(crate) fn fill_rough(&self, rough: &mut Vec<i128>)
         requires none { rough.old.items ≡ [] }
@@ -22,8 +22,8 @@ impl<'a, W: Whole> Tableau<'a, W> {
         }
     }
 
-    /// About what a structural column is: its value in the tableau; where the sum of its row is out of range, the bound at which
-    /// it last stood.
+    /// About what a structural column is: its value in the tableau; where 128 bits don't hold the sum of its row, the bound
+    /// at which it last stood.
     fn rough_coordinate(&self, column: usize) -> i128
         requires first { 1 ≤ column }
         requires last { column ≤ column_count self.now.program }
@@ -35,15 +35,15 @@ impl<'a, W: Whole> Tableau<'a, W> {
         }
     }
 
-    /// About what the basic column of a row is. `None` where the sum of the row is out of range.
+    /// About what the basic column of a row is. `None` where 128 bits don't hold the sum of the row.
     fn rough_basic(&self, row: usize) -> Option<i128>
         requires { IsRow (tableau_of W.meaning self.now) row }
     {
         match self.rest(row) {
-            Ok(rest) => Some(0i128.saturating_sub(rough_quotient(
-                rest.wide(),
-                self.pivot(row).wide(),
-            ))),
+            Ok(rest) => {
+                let quotient = rough_quotient(rest.narrow()?, self.pivot(row).wide());
+                Some(0i128.saturating_sub(quotient))
+            }
             Err(_) => None,
         }
     }

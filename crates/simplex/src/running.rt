@@ -7,12 +7,12 @@ ghost use Rattle.simplex.specs.States.{tableau_of};
 
 use crate::choice::Choice;
 use crate::table::Tableau;
-use numbers::Whole;
+use numbers::Narrow;
 use tableau::Exchange;
 
 /// Makes good exchanges, up to the budget of them, and puts them behind the trail. It answers why there is no further one: an
 /// exchange that is good is answered only where the budget is spent.
-pub(crate) fn run<W: Whole>(
+pub(crate) fn run<W: Narrow>(
     tableau: &mut Tableau<'_, W>,
     trail: &mut Vec<Exchange>,
     budget: u32,

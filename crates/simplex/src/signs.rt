@@ -5,7 +5,7 @@ ghost use Rattle.tableau.specs.Exchanges.{IsToward};
 ghost use Rattle.tableau.specs.declared.bound.Bound.{Bound};
 ghost use Rattle.tableau.specs.declared.bound.Bound.TheVariants.{Upper};
 
-use numbers::Whole;
+use numbers::{Narrow, Whole};
 use sparse_rows::is_negative;
 use std::cmp::Ordering;
 
@@ -40,7 +40,7 @@ pub(crate) fn is_same_sign<A: Whole, B: Whole>(a: A, b: B) -> bool
 
 /// Whether an eligible column is eligible because the upper bound is broken: from the entry of the basic column, its own
 /// entry, and whether it stands at its upper bound.
-pub(crate) fn breaks_upper<W: Whole>(basic: W, entry: W, at_high: bool) -> bool
+pub(crate) fn breaks_upper<W: Narrow>(basic: W, entry: W, at_high: bool) -> bool
     ensures { (broken : Bound) → IsToward broken at_high (W.meaning entry) (W.meaning basic) → (IsTrue result ↔ (broken ≡ Upper)) }
 {
     if at_high {

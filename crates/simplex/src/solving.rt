@@ -20,7 +20,7 @@ use crate::lp_end::{LpEnd, Used};
 use crate::numbers_of::{fill_slacks, ray_turns};
 use crate::running::run;
 use crate::table::Tableau;
-use numbers::Whole;
+use numbers::{Narrow, Whole};
 use sparse_rows::entry;
 use std::alloc::{AllocError, Global};
 use tableau::{Bound, Exchange, Op};
@@ -48,7 +48,7 @@ impl Room {
     }
 }
 
-impl<'a, W: Whole> Tableau<'a, W> {
+impl<'a, W: Narrow> Tableau<'a, W> {
     /// Puts the multipliers of the rows into `mults`, which has room for them, and answers the scale.
     fn own_numbers(&self, mults: &mut Vec<i128>) -> i128
         requires none { mults.old.items ≡ [] }
@@ -89,13 +89,16 @@ impl<'a, W: Whole> Tableau<'a, W> {
         ensures optimum { IfOk result (λ den. IsOwnOptimum self.now.program (tableau_of W.meaning self.now) den point.new.items) }
         ensures wide { IfErr result (λ op. IsOutOfRange W.greatest (tableau_of W.meaning self.now) op) }
     {
-        let _rows = self.rows();
+        let rows = self.rows();
         let den = match self.denominator() {
             Ok(den) => den,
             Err(op) => return Err(op),
         };
+        let Some(number) = den.narrow() else {
+            return Err(Op::Join { row: rows as u16 });
+        };
         match self.fill_point(den, point) {
-            Ok(()) => Ok(den.wide()),
+            Ok(()) => Ok(number),
             Err(op) => Err(op),
         }
     }
@@ -214,7 +217,7 @@ fn fill_zeros(count: usize, list: &mut Vec<i128>)
 /// Runs the dual simplex over numbers of W's range, by at most `budget` exchanges. All memory, that of the answer too, is
 /// taken at the start. Where a number of the program is out of range, the end is `Wide` with an empty trail and the place of such a
 /// number. `AllocError` where memory can't be had.
-pub fn solve<W: Whole>(alloc: Global, lp: &Lp<'_>, budget: u32) -> Result<LpEnd, AllocError>
+pub fn solve<W: Narrow>(alloc: Global, lp: &Lp<'_>, budget: u32) -> Result<LpEnd, AllocError>
     requires { 1 ≤ budget }
     ensures end { IfOk result (λ end. IsEnd W.greatest lp.now.milp.now budget end) }
     ensures at_start { IfOk result (λ end. (IsInRange W.greatest (given_of lp.now.milp.now) → ⊥) → IsWideAtStart W.greatest lp.now.milp.now end) }
@@ -236,7 +239,7 @@ pub fn solve<W: Whole>(alloc: Global, lp: &Lp<'_>, budget: u32) -> Result<LpEnd,
 
 /// Runs the dual simplex over numbers of N's range, and from the start again over those of M's where an operation is out of
 /// N's range. `AllocError` where memory can't be had.
-pub fn solve_either<N: Whole, M: Whole>(
+pub fn solve_either<N: Narrow, M: Narrow>(
     alloc: Global,
     lp: &Lp<'_>,
     budget: u32,

@@ -1,5 +1,5 @@
 // A tableau in memory, and its exchanges.
-ghost use Rattle.std.specs.Prelude.{◌≡◌, ◌↔◌, ◌<◌, ◌≤◌, ℕ, ℤ, length, take, vec_capacity, IfOk, IfErr, IfSome, IsSome};
+ghost use Rattle.std.specs.Prelude.{◌≡◌, ◌↔◌, ◌<◌, ◌≤◌, ℕ, ℤ, length, take, IfOk, IfErr, IfSome, IsSome};
 ghost use Rattle.programs.specs.Programs.{row_count};
 ghost use Rattle.tableau.specs.Tableaux.{IsStart};
 ghost use Rattle.tableau.specs.Programs.{HasSlacks};
@@ -12,25 +12,26 @@ ghost use Rattle.simplex.specs.States.{KeepsLaws, State, tableau_of};
 ghost use Rattle.simplex.specs.Starts.{IsInRange};
 ghost use Rattle.simplex.specs.Refusals.{IsCellOf};
 
+use crate::cells::Cells;
 use crate::filling::{all_false, fill_numbers, slack_basis};
 use crate::lp::Lp;
 use crate::rows::exchange_rows;
-use numbers::{W128, Whole};
+use numbers::Narrow;
 use programs::Milp;
 use std::alloc::{AllocError, Global};
 use std::marker::Model;
 use tableau::{Exchange, Op};
-use term_store::{Rows, Term};
+use term_store::Rows;
 
 /// A tableau of the dual simplex that good exchanges have reached, with numbers of the range of W.
 /// Contracts see its program, the terms of its rows, its basis and where columns stand.
 #[derive(Drop)]
-pub struct Tableau<'a, W: Whole> {
+pub struct Tableau<'a, W: Narrow> {
     pub(crate) milp: &'a Milp,
     // The cost row, the rows of the program, and as many spare rows.
     pub(crate) lines: Rows<W>,
     marks: Vec<bool>,
-    cells: Vec<Term<W128>>,
+    cells: Cells,
     pub(crate) low: Vec<W>,
     pub(crate) high: Vec<W>,
     pub(crate) has_high: Vec<bool>,
@@ -38,8 +39,8 @@ pub struct Tableau<'a, W: Whole> {
     pub(crate) at_high: Vec<bool>,
 }
 
-impl<'a, W: Whole> Model for Tableau<'a, W> {
-    ghost use Rattle.std.specs.Prelude.{◌+◌, take, length, vec_capacity};
+impl<'a, W: Narrow> Model for Tableau<'a, W> {
+    ghost use Rattle.std.specs.Prelude.{◌+◌, take, length};
     ghost use Rattle.programs.specs.Programs.{row_count};
     ghost use Rattle.simplex.specs.States.{State};
     ghost use Rattle.simplex.specs.inside.Kept.{IsKept};
@@ -64,10 +65,10 @@ impl<'a, W: Whole> Model for Tableau<'a, W> {
       has_high = t.has_high.items;
       basis = t.basis.items;
       at_high = t.at_high.items;
-    }) t.lines.rows (length t.marks.items) t.lines.width (vec_capacity t.cells) };
+    }) t.lines.rows (length t.marks.items) t.lines.width t.cells };
 }
 
-impl<'a, W: Whole> Tableau<'a, W> {
+impl<'a, W: Narrow> Tableau<'a, W> {
     /// The tableau at the start, or `None` exactly where an entry, cost or bound of the program is out of W's range.
     /// `AllocError` where its memory can't be had.
     pub fn start(alloc: Global, lp: &Lp<'a>) -> Result<Option<Tableau<'a, W>>, AllocError>
@@ -102,7 +103,7 @@ impl<'a, W: Whole> Tableau<'a, W> {
         let marks = all_false(alloc, count)?;
         let at_high = all_false(alloc, end)?;
         let basis = slack_basis(alloc, columns, rows)?;
-        let cells = Vec::with_capacity(alloc, end)?;
+        let cells = Cells::new(alloc, end)?;
         let mut lines = Rows::new(alloc, count + count, end)?;
         let mut low = Vec::new(alloc);
         let mut high = Vec::new(alloc);

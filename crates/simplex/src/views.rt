@@ -4,10 +4,10 @@ ghost use Rattle.programs.specs.Programs.{column_count, row_count};
 ghost use Rattle.simplex.specs.States.{KeepsLaws};
 
 use crate::table::Tableau;
-use numbers::Whole;
+use numbers::Narrow;
 use term_store::Term;
 
-impl<'a, W: Whole> Tableau<'a, W> {
+impl<'a, W: Narrow> Tableau<'a, W> {
     /// The number of structural columns.
     pub(crate) fn columns(&self) -> usize
         ensures { result ≡ column_count self.now.program }

@@ -3,12 +3,12 @@ ghost use Rattle.std.specs.Prelude.{◌≡◌, ℕ, ◌+◌, ◌<◌, ◌≤◌,
 ghost use Rattle.sparse_rows.specs.Lines.{IsFilled};
 ghost use Rattle.sparse_rows.specs.Cells.{cell, IsWideCell};
 
-use numbers::Whole;
+use numbers::{Narrow, Whole};
 use std::cmp::Ordering;
 use term_store::Term;
 
 /// The number in a range that is no smaller.
-pub fn widened<W: Whole, T: Whole>(v: W) -> T
+pub fn widened<W: Narrow, T: Whole>(v: W) -> T
     requires { W.greatest ≤ T.greatest }
     ensures { T.meaning result ≡ W.meaning v }
 {
@@ -19,7 +19,7 @@ pub fn widened<W: Whole, T: Whole>(v: W) -> T
 }
 
 /// The cell of a row's entry and the pivot row's entry.
-pub(crate) fn cell_of<W: Whole, T: Whole>(keep: T, entry: W, take: T, pivot_entry: W) -> Option<T>
+pub(crate) fn cell_of<W: Narrow, T: Whole>(keep: T, entry: W, take: T, pivot_entry: W) -> Option<T>
     requires { W.greatest ≤ T.greatest }
     ensures value { IfSome result (λ z. T.meaning z
         ≡ cell (T.meaning keep) (W.meaning entry) (T.meaning take) (W.meaning pivot_entry)) }
@@ -32,7 +32,7 @@ pub(crate) fn cell_of<W: Whole, T: Whole>(keep: T, entry: W, take: T, pivot_entr
 }
 
 /// The cell of a row's entry at a column where the pivot row has none.
-pub(crate) fn kept_cell<W: Whole, T: Whole>(keep: T, entry: W) -> Option<T>
+pub(crate) fn kept_cell<W: Narrow, T: Whole>(keep: T, entry: W) -> Option<T>
     requires { W.greatest ≤ T.greatest }
     ensures value { IfSome result (λ z. (take : ℤ) → T.meaning z
         ≡ cell (T.meaning keep) (W.meaning entry) take (pos 0)) }
@@ -44,7 +44,7 @@ pub(crate) fn kept_cell<W: Whole, T: Whole>(keep: T, entry: W) -> Option<T>
 }
 
 /// The cell of the pivot row's entry at a column where the row has none.
-pub(crate) fn taken_cell<W: Whole, T: Whole>(take: T, pivot_entry: W) -> Option<T>
+pub(crate) fn taken_cell<W: Narrow, T: Whole>(take: T, pivot_entry: W) -> Option<T>
     requires { W.greatest ≤ T.greatest }
     ensures value { IfSome result (λ z. (keep : ℤ) → T.meaning z
         ≡ cell keep (pos 0) (T.meaning take) (W.meaning pivot_entry)) }

@@ -4,12 +4,12 @@ ghost use Rattle.sparse_rows.specs.Lines.{IsLine, IsFilled, entry_of};
 ghost use Rattle.sparse_rows.specs.Cells.{cell, IsWideCell};
 
 use crate::cells::{cell_of, kept_cell, put, taken_cell};
-use numbers::Whole;
+use numbers::{Narrow, Whole};
 use term_store::Term;
 
 /// Puts `keep` times the row `other` less `take` times the row `pivot` in place of the terms of `out`, whose capacity is
 /// the number of columns. `Err` with the column of a cell that is out of T's range.
-pub fn combine<W: Whole, T: Whole>(
+pub fn combine<W: Narrow, T: Whole>(
     pivot: &[Term<W>],
     other: &[Term<W>],
     keep: T,

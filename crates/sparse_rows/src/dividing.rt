@@ -6,7 +6,7 @@ ghost use Rattle.sparse_rows.specs.Lines.{IsLine, entry_of};
 ghost use Rattle.sparse_rows.specs.Cells.{IsCommonDivisor};
 
 use crate::cells::is_negative;
-use numbers::{W64, Whole};
+use numbers::{Narrow, W64, Whole};
 use std::cmp::Ordering;
 use term_store::{RowMut, Term};
 
@@ -41,12 +41,12 @@ fn least_magnitude<T: Whole>(terms: &[Term<T>]) -> T
     }
 }
 
-/// Of two numbers the one of lesser magnitude; the second one where the first is 0.
+/// Of two numbers the one of about the lesser magnitude; the second one where the first is 0.
 fn lesser<T: Whole>(a: T, b: T) -> T
     ensures { (result ≡ a) ⊎ (result ≡ b) }
 {
-    let size = a.wide().unsigned_abs();
-    if size == 0 || b.wide().unsigned_abs() < size {
+    let size = a.size();
+    if size == 0 || b.size() < size {
         b
     } else {
         a
@@ -55,7 +55,7 @@ fn lesser<T: Whole>(a: T, b: T) -> T
 
 /// Puts the row of these terms, each divided by `divisor`, into `row`, in the narrower range.
 /// `Err` with the column of a quotient that is out of it.
-pub fn write_divided<W: Whole, T: Whole>(
+pub fn write_divided<W: Narrow, T: Whole>(
     terms: &[Term<T>],
     divisor: T,
     row: RowMut<'_, W>,
@@ -82,13 +82,13 @@ pub fn write_divided<W: Whole, T: Whole>(
 }
 
 /// The quotient by a divisor above 0 that divides, in the narrower range.
-fn divided<W: Whole, T: Whole>(value: T, divisor: T) -> Option<W>
+fn divided<W: Narrow, T: Whole>(value: T, divisor: T) -> Option<W>
     requires positive { pos 0 <ℤ T.meaning divisor }
     requires divides { Divides (T.meaning divisor) (T.meaning value) }
     ensures value { IfSome result (λ w. T.meaning value ≡ T.meaning divisor *ℤ W.meaning w) }
     ensures wide { IfNone result (W.greatest < unsigned_abs (T.meaning value)) }
 {
-    W::of_wide(part(value, divisor).wide())
+    W::of_wide(part(value, divisor).narrow()?)
 }
 
 /// The quotient by a divisor above 0 that divides.
@@ -100,13 +100,19 @@ pub(crate) fn part<T: Whole>(value: T, divisor: T) -> T
     if is_one(divisor) {
         return value;
     }
-    match narrow_part(value.wide(), divisor.wide()) {
-        Some(narrow) => match T::of_wide(narrow) {
-            Some(quotient) => quotient,
-            None => value.exact_part(divisor),
-        },
+    match word_part(value, divisor) {
+        Some(quotient) => quotient,
         None => value.exact_part(divisor),
     }
+}
+
+/// The quotient by a divisor that isn't 0 and divides, by a division of 64 bits. `None` where one of the numbers has more.
+fn word_part<T: Whole>(value: T, divisor: T) -> Option<T>
+    requires nonzero { T.meaning divisor ≢ pos 0 }
+    requires divides { Divides (T.meaning divisor) (T.meaning value) }
+    ensures { IfSome result (λ q. T.meaning value ≡ T.meaning divisor *ℤ T.meaning q) }
+{
+    T::of_wide(narrow_part(value.narrow()?, divisor.narrow()?)?)
 }
 
 /// The quotient by a divisor that divides, by a division of 64 bits. `None` where one of the numbers has more.

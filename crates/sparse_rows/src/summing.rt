@@ -5,13 +5,13 @@ ghost use Rattle.sparse_rows.specs.Lines.{IsLine};
 ghost use Rattle.sparse_rows.specs.Sums.{share, standing_at};
 
 use crate::cells::{is_zero, widened};
-use numbers::Whole;
+use numbers::{Narrow, Whole};
 use term_store::Term;
 
 /// The sum of a row's entries, each times the bound at which its column stands, without the column `without`. There are
 /// one lower and one upper bound for each column, column 0 among them. `Err` with the column of a product, or of a sum up
 /// to it, that is out of T's range.
-pub fn row_sum<W: Whole, T: Whole>(
+pub fn row_sum<W: Narrow, T: Whole>(
     row: &[Term<W>],
     without: u32,
     low: &[W],
@@ -64,7 +64,7 @@ pub fn standing<W: Whole>(low: &[W], high: &[W], at_high: &[bool], column: usize
 }
 
 /// A product in the wider range.
-pub fn product_of<W: Whole, T: Whole>(a: W, b: W) -> Option<T>
+pub fn product_of<W: Narrow, T: Whole>(a: W, b: W) -> Option<T>
     requires { W.greatest ≤ T.greatest }
     ensures value { IfSome result (λ z. T.meaning z ≡ W.meaning a *ℤ W.meaning b) }
     ensures wide { IfNone result (T.greatest < unsigned_abs (W.meaning a *ℤ W.meaning b)) }

@@ -3,7 +3,8 @@
 use crate::runs::{Limits, NO_LIMITS, Outcome, ran, untouched};
 use crate::texts::{
     BLOCK_CERT, BLOCK_PLAN, BLOCK_PLAN_OFF, BLOCK_REPORT, BLOCK_ROAD, PAIR_CERT, PAIR_MASS,
-    PAIR_PLAN, PAIR_PLAN_OFF, PAIR_REPORT, PAIR_ROAD, PIT_REPORT, PIT_ROAD, TABLE_ROAD,
+    PAIR_PLAN, PAIR_PLAN_OFF, PAIR_REPORT, PAIR_ROAD, PAIR_ROAD_DEARER, PIT_REPORT, PIT_ROAD,
+    TABLE_ROAD,
 };
 use roadopt_program::Status;
 use std::test::Fail;
@@ -15,7 +16,7 @@ const USAGE: &[u8] =
 const OLD: &[u8] = b"old\n";
 
 /// A run, and what is due for it where no call fails: so many reads and puts, the end, the output, and whether it answers a
-/// certificate, which it writes.
+/// certificate, which it writes to the file `cert`, and notes of a search.
 #[derive(Clone, Copy)]
 struct Due {
     name: &'static str,
@@ -26,6 +27,7 @@ struct Due {
     status: Status,
     output: &'static [u8],
     has_cert: bool,
+    has_notes: bool,
 }
 
 /// The commands that answer from two files, each on two roads.
@@ -39,6 +41,7 @@ static READING: [Due; 7] = [
         status: Status::Done,
         output: b"admissible 225000/1\n",
         has_cert: false,
+        has_notes: false,
     },
     Due {
         name: "check on two sections",
@@ -49,6 +52,7 @@ static READING: [Due; 7] = [
         status: Status::Done,
         output: b"valid cost 225000/1 bound 225000/1\n",
         has_cert: false,
+        has_notes: false,
     },
     Due {
         name: "replay on two sections",
@@ -59,6 +63,7 @@ static READING: [Due; 7] = [
         status: Status::Done,
         output: PAIR_REPORT,
         has_cert: false,
+        has_notes: false,
     },
     Due {
         name: "mass on two sections",
@@ -69,6 +74,7 @@ static READING: [Due; 7] = [
         status: Status::Done,
         output: PAIR_MASS,
         has_cert: false,
+        has_notes: false,
     },
     Due {
         name: "judge on a block",
@@ -79,6 +85,7 @@ static READING: [Due; 7] = [
         status: Status::Done,
         output: b"admissible 326000/1\n",
         has_cert: false,
+        has_notes: false,
     },
     Due {
         name: "check on a block",
@@ -89,6 +96,7 @@ static READING: [Due; 7] = [
         status: Status::Done,
         output: b"valid cost 326000/1 bound 326000/1\n",
         has_cert: false,
+        has_notes: false,
     },
     Due {
         name: "replay on a block",
@@ -99,11 +107,12 @@ static READING: [Due; 7] = [
         status: Status::Done,
         output: BLOCK_REPORT,
         has_cert: false,
+        has_notes: false,
     },
 ];
 
-/// The command that writes a file, on three roads.
-static SOLVING: [Due; 3] = [
+/// The commands that write a file, each on three roads.
+static WRITING: [Due; 6] = [
     Due {
         name: "solve on one section",
         words: &["solve", "road", "cert"],
@@ -113,6 +122,7 @@ static SOLVING: [Due; 3] = [
         status: Status::Done,
         output: PIT_REPORT,
         has_cert: true,
+        has_notes: true,
     },
     Due {
         name: "solve on two sections",
@@ -123,6 +133,7 @@ static SOLVING: [Due; 3] = [
         status: Status::Done,
         output: PAIR_REPORT,
         has_cert: true,
+        has_notes: true,
     },
     Due {
         name: "solve on a block",
@@ -133,11 +144,45 @@ static SOLVING: [Due; 3] = [
         status: Status::Done,
         output: BLOCK_REPORT,
         has_cert: true,
+        has_notes: true,
+    },
+    Due {
+        name: "carry on two sections",
+        words: &["carry", "road", "given", "cert"],
+        files: &[("road", PAIR_ROAD_DEARER), ("given", PAIR_CERT), ("cert", OLD)],
+        reads: 2,
+        puts: 1,
+        status: Status::Done,
+        output: b"carried cost 250000/1 bound 250000/1\n",
+        has_cert: true,
+        has_notes: false,
+    },
+    Due {
+        name: "carry on two sections, to no file as yet",
+        words: &["carry", "road", "given", "cert"],
+        files: &[("road", PAIR_ROAD), ("given", PAIR_CERT)],
+        reads: 2,
+        puts: 1,
+        status: Status::Done,
+        output: b"carried cost 225000/1 bound 225000/1\n",
+        has_cert: true,
+        has_notes: false,
+    },
+    Due {
+        name: "carry on a block",
+        words: &["carry", "road", "given", "cert"],
+        files: &[("road", BLOCK_ROAD), ("given", BLOCK_CERT), ("cert", OLD)],
+        reads: 2,
+        puts: 1,
+        status: Status::Done,
+        output: b"carried cost 326000/1 bound 326000/1\n",
+        has_cert: true,
+        has_notes: false,
     },
 ];
 
 /// Words and files that are refused.
-static REFUSED: [Due; 14] = [
+static REFUSED: [Due; 18] = [
     Due {
         name: "no words",
         words: &[],
@@ -147,6 +192,7 @@ static REFUSED: [Due; 14] = [
         status: Status::Usage,
         output: USAGE,
         has_cert: false,
+        has_notes: false,
     },
     Due {
         name: "solve a a",
@@ -157,6 +203,7 @@ static REFUSED: [Due; 14] = [
         status: Status::Usage,
         output: USAGE,
         has_cert: false,
+        has_notes: false,
     },
     Due {
         name: "trial 03",
@@ -167,6 +214,7 @@ static REFUSED: [Due; 14] = [
         status: Status::Usage,
         output: USAGE,
         has_cert: false,
+        has_notes: false,
     },
     Due {
         name: "judge on an empty road",
@@ -177,6 +225,7 @@ static REFUSED: [Due; 14] = [
         status: Status::RoadRefused,
         output: b"road refused: F3\n",
         has_cert: false,
+        has_notes: false,
     },
     Due {
         name: "check on an empty road",
@@ -187,6 +236,7 @@ static REFUSED: [Due; 14] = [
         status: Status::RoadRefused,
         output: b"road refused: F3\n",
         has_cert: false,
+        has_notes: false,
     },
     Due {
         name: "replay on an empty road",
@@ -197,6 +247,7 @@ static REFUSED: [Due; 14] = [
         status: Status::RoadRefused,
         output: b"road refused: F3\n",
         has_cert: false,
+        has_notes: false,
     },
     Due {
         name: "solve on an empty road",
@@ -207,6 +258,7 @@ static REFUSED: [Due; 14] = [
         status: Status::RoadRefused,
         output: b"road refused: F3\n",
         has_cert: false,
+        has_notes: false,
     },
     Due {
         name: "judge on two sections, a plan that is refused",
@@ -217,6 +269,7 @@ static REFUSED: [Due; 14] = [
         status: Status::PlanRefused,
         output: b"plan refused: line 1\n",
         has_cert: false,
+        has_notes: false,
     },
     Due {
         name: "judge on two sections, a plan that breaks a rule",
@@ -227,6 +280,7 @@ static REFUSED: [Due; 14] = [
         status: Status::PlanBroken,
         output: b"broken P7 stage 1 place 1\n",
         has_cert: false,
+        has_notes: false,
     },
     Due {
         name: "judge on a block, a plan that breaks a rule",
@@ -237,6 +291,7 @@ static REFUSED: [Due; 14] = [
         status: Status::PlanBroken,
         output: b"broken P7 stage 2 place 2\n",
         has_cert: false,
+        has_notes: false,
     },
     Due {
         name: "check on two sections, a certificate that is refused",
@@ -247,6 +302,7 @@ static REFUSED: [Due; 14] = [
         status: Status::CertRefused,
         output: b"certificate refused: C2 line 4\n",
         has_cert: false,
+        has_notes: false,
     },
     Due {
         name: "mass and a further word",
@@ -257,6 +313,7 @@ static REFUSED: [Due; 14] = [
         status: Status::Usage,
         output: USAGE,
         has_cert: false,
+        has_notes: false,
     },
     Due {
         name: "mass on two sections, a certificate that is refused",
@@ -267,6 +324,7 @@ static REFUSED: [Due; 14] = [
         status: Status::CertRefused,
         output: b"certificate refused: C2 line 4\n",
         has_cert: false,
+        has_notes: false,
     },
     Due {
         name: "replay on two sections, a certificate that is refused",
@@ -277,11 +335,56 @@ static REFUSED: [Due; 14] = [
         status: Status::CertRefused,
         output: b"certificate refused: C2 line 4\n",
         has_cert: false,
+        has_notes: false,
+    },
+    Due {
+        name: "carry without a third name",
+        words: &["carry", "road", "cert"],
+        files: &[("road", PAIR_ROAD), ("cert", PAIR_CERT)],
+        reads: 0,
+        puts: 1,
+        status: Status::Usage,
+        output: USAGE,
+        has_cert: false,
+        has_notes: false,
+    },
+    Due {
+        name: "carry onto what is carried",
+        words: &["carry", "road", "cert", "cert"],
+        files: &[("road", PAIR_ROAD), ("cert", PAIR_CERT)],
+        reads: 0,
+        puts: 1,
+        status: Status::Usage,
+        output: USAGE,
+        has_cert: false,
+        has_notes: false,
+    },
+    Due {
+        name: "carry on an empty road",
+        words: &["carry", "road", "given", "cert"],
+        files: &[("road", b""), ("given", PAIR_CERT), ("cert", OLD)],
+        reads: 1,
+        puts: 1,
+        status: Status::RoadRefused,
+        output: b"road refused: F3\n",
+        has_cert: false,
+        has_notes: false,
+    },
+    Due {
+        name: "carry on two sections, a certificate that is refused",
+        words: &["carry", "road", "given", "cert"],
+        files: &[("road", PAIR_ROAD), ("given", BLOCK_CERT), ("cert", OLD)],
+        reads: 2,
+        puts: 1,
+        status: Status::CertRefused,
+        output: b"certificate refused: C2 line 4\n",
+        has_cert: false,
+        has_notes: false,
     },
 ];
 
 /// Files that aren't there.
-static MISSING: [Due; 10] = [
+static MISSING: [Due; 12] = [
     Due {
         name: "judge without a road",
         words: &["judge", "road", "plan"],
@@ -291,6 +394,7 @@ static MISSING: [Due; 10] = [
         status: Status::Missing,
         output: b"",
         has_cert: false,
+        has_notes: false,
     },
     Due {
         name: "judge without a plan",
@@ -301,6 +405,7 @@ static MISSING: [Due; 10] = [
         status: Status::Missing,
         output: b"",
         has_cert: false,
+        has_notes: false,
     },
     Due {
         name: "check without a road",
@@ -311,6 +416,7 @@ static MISSING: [Due; 10] = [
         status: Status::Missing,
         output: b"",
         has_cert: false,
+        has_notes: false,
     },
     Due {
         name: "check without a certificate",
@@ -321,6 +427,7 @@ static MISSING: [Due; 10] = [
         status: Status::Missing,
         output: b"",
         has_cert: false,
+        has_notes: false,
     },
     Due {
         name: "mass without a road",
@@ -331,6 +438,7 @@ static MISSING: [Due; 10] = [
         status: Status::Missing,
         output: b"",
         has_cert: false,
+        has_notes: false,
     },
     Due {
         name: "mass without a certificate",
@@ -341,6 +449,7 @@ static MISSING: [Due; 10] = [
         status: Status::Missing,
         output: b"",
         has_cert: false,
+        has_notes: false,
     },
     Due {
         name: "replay without a road",
@@ -351,6 +460,7 @@ static MISSING: [Due; 10] = [
         status: Status::Missing,
         output: b"",
         has_cert: false,
+        has_notes: false,
     },
     Due {
         name: "replay without a certificate",
@@ -361,6 +471,7 @@ static MISSING: [Due; 10] = [
         status: Status::Missing,
         output: b"",
         has_cert: false,
+        has_notes: false,
     },
     Due {
         name: "solve without a road",
@@ -371,6 +482,7 @@ static MISSING: [Due; 10] = [
         status: Status::Missing,
         output: b"",
         has_cert: false,
+        has_notes: false,
     },
     Due {
         name: "solve without a table",
@@ -381,6 +493,29 @@ static MISSING: [Due; 10] = [
         status: Status::Missing,
         output: b"",
         has_cert: false,
+        has_notes: false,
+    },
+    Due {
+        name: "carry without a road",
+        words: &["carry", "road", "given", "cert"],
+        files: &[("given", PAIR_CERT), ("cert", OLD)],
+        reads: 1,
+        puts: 0,
+        status: Status::Missing,
+        output: b"",
+        has_cert: false,
+        has_notes: false,
+    },
+    Due {
+        name: "carry without a certificate",
+        words: &["carry", "road", "given", "cert"],
+        files: &[("road", PAIR_ROAD), ("cert", OLD)],
+        reads: 2,
+        puts: 0,
+        status: Status::Missing,
+        output: b"",
+        has_cert: false,
+        has_notes: false,
     },
 ];
 
@@ -392,6 +527,7 @@ fn lost(due: &Due) -> Outcome {
     };
     Outcome {
         has_cert: due.has_cert,
+        has_notes: due.has_notes,
         sink_faults: 1,
         cert_kept: !due.has_cert,
         ..untouched(status)
@@ -403,7 +539,7 @@ fn lost(due: &Due) -> Outcome {
 fn failing_reads(rt: HostRuntime) -> Result<(), Fail> {
     for due in READING
         .iter()
-        .chain(&SOLVING)
+        .chain(&WRITING)
         .chain(&REFUSED)
         .chain(&MISSING)
     {
@@ -428,7 +564,7 @@ fn failing_reads(rt: HostRuntime) -> Result<(), Fail> {
 /// The write fails: nothing is printed, and the files are as before.
 #[test]
 fn failing_writes(rt: HostRuntime) -> Result<(), Fail> {
-    for due in &SOLVING {
+    for due in &WRITING {
         let limits = Limits {
             store: &[u64::from(due.reads) + 1],
             ..NO_LIMITS
@@ -436,6 +572,7 @@ fn failing_writes(rt: HostRuntime) -> Result<(), Fail> {
         let end = ran(rt.alloc(), due.words, due.files, &limits)?;
         let wanted = Outcome {
             has_cert: true,
+            has_notes: due.has_notes,
             write_faults: 1,
             ..untouched(Status::WriteFault)
         };
@@ -449,7 +586,7 @@ fn failing_writes(rt: HostRuntime) -> Result<(), Fail> {
 /// The one put fails: an answer is lost, a refusal keeps its end, and what was written before stands.
 #[test]
 fn failing_puts(rt: HostRuntime) -> Result<(), Fail> {
-    for due in READING.iter().chain(&SOLVING).chain(&REFUSED) {
+    for due in READING.iter().chain(&WRITING).chain(&REFUSED) {
         let limits = Limits {
             sink: &[1],
             ..NO_LIMITS
@@ -465,7 +602,7 @@ fn failing_puts(rt: HostRuntime) -> Result<(), Fail> {
 /// The sink is full behind ten bytes, which are the first of what is due.
 #[test]
 fn full_sinks(rt: HostRuntime) -> Result<(), Fail> {
-    for due in READING.iter().chain(&SOLVING).chain(&REFUSED) {
+    for due in READING.iter().chain(&WRITING).chain(&REFUSED) {
         let limits = Limits {
             room: 10,
             ..NO_LIMITS
@@ -484,7 +621,7 @@ fn full_sinks(rt: HostRuntime) -> Result<(), Fail> {
 fn no_further_calls(rt: HostRuntime) -> Result<(), Fail> {
     for due in READING
         .iter()
-        .chain(&SOLVING)
+        .chain(&WRITING)
         .chain(&REFUSED)
         .chain(&MISSING)
     {
@@ -496,6 +633,7 @@ fn no_further_calls(rt: HostRuntime) -> Result<(), Fail> {
         let end = ran(rt.alloc(), due.words, due.files, &limits)?;
         let wanted = Outcome {
             has_cert: due.has_cert,
+            has_notes: due.has_notes,
             cert_kept: !due.has_cert,
             ..untouched(due.status)
         };

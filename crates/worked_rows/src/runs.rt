@@ -22,8 +22,9 @@ pub(crate) const NO_LIMITS: Limits<'static> = Limits {
 #[derive(Clone, Copy, Debug, PartialEq, Eq)]
 pub(crate) struct Outcome {
     pub(crate) status: Status,
-    /// Whether it answered a certificate, and with it notes.
+    /// Whether it answered a certificate, and whether it answered notes.
     pub(crate) has_cert: bool,
+    pub(crate) has_notes: bool,
     /// How many calls failed.
     pub(crate) read_faults: u64,
     pub(crate) write_faults: u64,
@@ -46,6 +47,7 @@ pub(crate) fn untouched(status: Status) -> Outcome {
     Outcome {
         status,
         has_cert: false,
+        has_notes: false,
         read_faults: 0,
         write_faults: 0,
         sink_faults: 0,
@@ -90,19 +92,19 @@ fn are_kept(alloc: Global, files: &[(&str, &[u8])], certs: bool, store: &mut Mem
     true
 }
 
-/// The run itself, and whether it answered a certificate with notes.
+/// The run itself, and whether it answered a certificate and notes.
 fn answer(
     alloc: Global,
     words: &[String],
     store: &mut MemStore,
     sink: &mut MemSink,
-) -> (Status, bool) {
+) -> (Status, bool, bool) {
     told(&run(alloc, words, store, sink))
 }
 
-fn told(answer: &Answer) -> (Status, bool) {
+fn told(answer: &Answer) -> (Status, bool, bool) {
     let has_notes = answer.notes.len() > 0;
-    (answer.status, answer.cert.is_some() && has_notes)
+    (answer.status, answer.cert.is_some(), has_notes)
 }
 
 /// A run over these files with these words, in which these calls fail.
@@ -115,7 +117,7 @@ pub(crate) fn ran(
     let mut store = stored(alloc, files, limits.store)?;
     let mut sink = MemSink::new(alloc, limits.room, limits.sink)?;
     let words = owned(alloc, words)?;
-    let (status, has_cert) = answer(alloc, words.as_slice(), &mut store, &mut sink);
+    let (status, has_cert, has_notes) = answer(alloc, words.as_slice(), &mut store, &mut sink);
     let read_faults = store.read_faults();
     let write_faults = store.write_faults();
     // The next call may be one that fails.
@@ -124,6 +126,7 @@ pub(crate) fn ran(
         outcome: Outcome {
             status,
             has_cert,
+            has_notes,
             read_faults,
             write_faults,
             sink_faults: sink.faults(),

@@ -23,6 +23,7 @@ fn written_certs(rt: HostRuntime) -> Result<(), Fail> {
         let end = ran(rt.alloc(), SOLVE, &[("road", road)], &limits)?;
         let wanted = Outcome {
             has_cert: true,
+            has_notes: true,
             sink_faults: 1,
             ..untouched(Status::WriteFault)
         };
@@ -54,6 +55,7 @@ fn failing_calls_by_a_table(rt: HostRuntime) -> Result<(), Fail> {
         } else {
             Outcome {
                 has_cert: true,
+                has_notes: true,
                 write_faults: 1,
                 ..untouched(Status::WriteFault)
             }
@@ -77,6 +79,7 @@ fn calls_of_a_trial(rt: HostRuntime) -> Result<(), Fail> {
     let status = end.outcome.status;
     let wanted = Outcome {
         has_cert: true,
+        has_notes: true,
         ..untouched(status)
     };
     assert_eq!(rt; end.outcome, wanted);
@@ -93,6 +96,7 @@ fn calls_of_a_trial(rt: HostRuntime) -> Result<(), Fail> {
 fn failing_puts_of_a_trial(rt: HostRuntime) -> Result<(), Fail> {
     let wanted = Outcome {
         has_cert: true,
+        has_notes: true,
         sink_faults: 1,
         ..untouched(Status::WriteFault)
     };

@@ -111,6 +111,44 @@ left_cost = 4
 left_max = 50000
 ";
 
+/// The same with hauls that cost 5.
+pub(crate) const PAIR_ROAD_DEARER: &[u8] = b"\
+version = 1
+step = 20
+stages = 1
+knots = [0, 1]
+low = 0
+high = 2000
+grade = [0, 0]
+curve = 0
+
+[[section]]
+station = 0
+ground = 1000
+cut = [[1000, 50]]
+fill = [[1000, 50]]
+cut_cost = 3
+fill_cost = 2
+cut_max = 100000
+fill_max = 100000
+
+[[section]]
+station = 1
+ground = 0
+cut = [[1000, 50]]
+fill = [[1000, 50]]
+cut_cost = 3
+fill_cost = 2
+cut_max = 100000
+fill_max = 100000
+
+[[hop]]
+right_cost = 5
+right_max = 50000
+left_cost = 5
+left_max = 50000
+";
+
 /// Its cheapest plan.
 pub(crate) const PAIR_PLAN: &[u8] = b"\
 plan 1

@@ -2,7 +2,7 @@
 ghost use Rattle.std.specs.Prelude.{◌≡◌, ◌≤◌, ◌*ℤ◌, unsigned_abs, refl};
 ghost use Rattle.std.proofs.Common.{arith, rules};
 
-use numbers::{W64, Whole};
+use numbers::{Narrow, W64, Whole};
 use std::cmp::Ordering;
 
 /// The whole numbers of magnitude at most 10.
@@ -41,8 +41,12 @@ impl Whole for Small {
         }
     }
 
-    fn wide(self) -> i128 {
-        self.value as i128
+    fn narrow(self) -> Option<i128> {
+        Some(self.value as i128)
+    }
+
+    fn size(self) -> u128 {
+        self.value.unsigned_abs() as u128
     }
 
     fn times(self, other: Small) -> Option<Small> {
@@ -91,6 +95,12 @@ impl Whole for Small {
     ghost holds_all = { λ z h. (record { value = z; in_range = Prim.omega arith }, refl) };
 
     ghost at_least_one = { Prim.search rules };
+}
+
+impl Narrow for Small {
+    fn wide(self) -> i128 {
+        self.value as i128
+    }
 
     ghost below_wide = { Prim.search rules };
 }

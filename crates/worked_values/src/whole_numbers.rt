@@ -4,7 +4,7 @@ ghost use Rattle.std.specs.Prelude.{◌≡◌, ◌≢◌, pos, IfSome};
 use crate::shown;
 use crate::small::Small;
 use crate::writing::Answer;
-use numbers::{Frac, W64, W128, Whole, common_den};
+use numbers::{Frac, Narrow, W64, W128, Whole, common_den};
 use std::alloc::{AllocError, Global};
 use std::cmp::Ordering;
 
@@ -18,7 +18,7 @@ pub(crate) fn number(out: &mut Answer, name: &str, words: &str) {
 }
 
 /// The call that the first word names, on the numbers that follow.
-fn calls<W: Whole>(out: &mut Answer, words: &str) {
+fn calls<W: Narrow>(out: &mut Answer, words: &str) {
     match shown::word(words, 0) {
         "of" => option(out, of::<W>(shown::number(words, 1))),
         "of_wide" => option(out, W::of_wide(shown::number(words, 1))),
@@ -31,7 +31,7 @@ fn calls<W: Whole>(out: &mut Answer, words: &str) {
     }
 }
 
-fn option<W: Whole>(out: &mut Answer, number: Option<W>) {
+fn option<W: Narrow>(out: &mut Answer, number: Option<W>) {
     match number {
         Some(number) => shown::option(out, Some(number.wide())),
         None => out.put("none"),
@@ -39,24 +39,24 @@ fn option<W: Whole>(out: &mut Answer, number: Option<W>) {
 }
 
 /// The number at a place of the words.
-fn at<W: Whole>(words: &str, i: usize) -> Option<W> {
+fn at<W: Narrow>(words: &str, i: usize) -> Option<W> {
     W::of_wide(shown::number(words, i))
 }
 
 /// The number from 64 bits.
-fn of<W: Whole>(number: i128) -> Option<W> {
+fn of<W: Narrow>(number: i128) -> Option<W> {
     let number = i64::try_from(number).ok()?;
     W::of(number)
 }
 
 /// The numbers 0 and 1.
-fn units<W: Whole>(out: &mut Answer) {
+fn units<W: Narrow>(out: &mut Answer) {
     let (zero, one) = (W::zero().wide(), W::one().wide());
     out.put(format_args!("{zero} {one}"));
 }
 
 /// The number of the other sign, and the sign.
-fn turned<W: Whole>(out: &mut Answer, words: &str) {
+fn turned<W: Narrow>(out: &mut Answer, words: &str) {
     let Some(number) = at::<W>(words, 1) else {
         return out.put("none");
     };
@@ -66,7 +66,7 @@ fn turned<W: Whole>(out: &mut Answer, words: &str) {
 }
 
 /// The sum, the difference, the product, the greatest common divisor and the order.
-fn two<W: Whole>(out: &mut Answer, words: &str) {
+fn two<W: Narrow>(out: &mut Answer, words: &str) {
     let (Some(a), Some(b)) = (at::<W>(words, 1), at::<W>(words, 2)) else {
         return out.put("none");
     };
@@ -89,7 +89,7 @@ fn order(order: Ordering) -> &'static str {
 }
 
 /// What the product of two numbers divided by the second gives.
-fn back<W: Whole>(words: &str) -> Option<W> {
+fn back<W: Narrow>(words: &str) -> Option<W> {
     let factor = at::<W>(words, 1)?;
     let other = at::<W>(words, 2)?;
     if other.wide() == 0 {
@@ -99,7 +99,7 @@ fn back<W: Whole>(words: &str) -> Option<W> {
 }
 
 /// What `factor * other` divided by `other` gives, where the product is in range.
-fn divided_back<W: Whole>(factor: W, other: W) -> Option<W>
+fn divided_back<W: Narrow>(factor: W, other: W) -> Option<W>
     requires { W.meaning other ≢ pos 0 }
     ensures { IfSome result (λ x. W.meaning x ≡ W.meaning factor) }
 {
@@ -107,7 +107,7 @@ fn divided_back<W: Whole>(factor: W, other: W) -> Option<W>
 }
 
 /// The difference of the products of the first and the last two of four numbers.
-fn apart<W: Whole>(words: &str) -> Option<W> {
+fn apart<W: Narrow>(words: &str) -> Option<W> {
     let a = at::<W>(words, 1)?;
     let b = at::<W>(words, 2)?;
     let c = at::<W>(words, 3)?;

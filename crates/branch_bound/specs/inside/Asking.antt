@@ -1,6 +1,5 @@
 -- The split for which a point of a box's program asks, or that it asks for none.
-use Rattle.std.specs.Prelude.{List, ℤ, pos, ◌≤ℤ◌}
-use Rattle.algebra.specs.Scale.{greatest_scale}
+use Rattle.std.specs.Prelude.{List, ℤ}
 use Rattle.road_types.specs.declared.road.Road.{Road}
 use Rattle.road_points.specs.Shown.{HasWholeRemovals, HasExactVolumes}
 use Rattle.milp_builder.specs.Parts.{IsSplitOf}
@@ -13,7 +12,7 @@ pub record IsAsked (road : Road) (box : BoxRange) (den : ℤ) (point : List ℤ)
   pub splits : IsSplitOf road box split
   pub asks : AsksFor road den point split
 
--- removals are whole, and over the denominator of a plan volumes are exact
+-- removals are whole and volumes exact
 pub record AsksForNothing (road : Road) (den : ℤ) (point : List ℤ) : Type 0 where
   pub whole : HasWholeRemovals road den point
-  pub exact : den ≤ℤ pos greatest_scale → HasExactVolumes road den point
+  pub exact : HasExactVolumes road den point

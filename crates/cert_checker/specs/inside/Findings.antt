@@ -13,7 +13,7 @@ use Rattle.numbers.specs.Fractions.{Fraction}
 use Rattle.cert_checker.specs.declared.checking.Findings.{Findings}
 use Rattle.cert_checker.specs.declared.checking.Tried.{Tried}
 use Rattle.cert_checker.specs.declared.checking.Tried.TheVariants.{Everything, Lasting}
-use Rattle.cert_checker.specs.Refusals.{stated_text, EndsAtLine, first_of, IsPlanRefusal, IsTreeRefusal, last_refusal}
+use Rattle.cert_checker.specs.Refusals.{refused, stated_text, EndsAtLine, first_of, IsPlanRefusal, IsTreeRefusal, last_refusal}
 use Rattle.cert_checker.specs.Carriable.{IsRuleRefusal, IsFirstCarryRefusal}
 use Rattle.cert_text.specs.Validity.{stated_cost}
 use Rattle.cert_checker.specs.declared.refusal.Refusal.{Refusal}

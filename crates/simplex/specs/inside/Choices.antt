@@ -46,12 +46,3 @@ module _ {A : Type 0} (f : A → ℤ) (row : List (Term A)) (basic : ℕ) (low h
     pub enters : MayEnter broken c
     pub least : (j : ℕ) → MayEnter broken j → IsAtMost costs c j
     pub first : (j : ℕ) → MayEnter broken j → IsAtMost costs j c → c ≤ j
-
-  -- a cross product of two columns that may enter is out of range
-  pub record IsWideRatio (greatest : ℕ) (costs : List (Term A)) (broken : Bound) (j k : ℕ) : Type 0 where
-    pub enters : MayEnter broken j
-    pub other : MayEnter broken k
-    pub differ : j ≢ k
-    pub wide :
-        (greatest < unsigned_abs (entry_of f costs j) * unsigned_abs (entry_of f row k))
-        ⊎ (greatest < unsigned_abs (entry_of f costs k) * unsigned_abs (entry_of f row j))

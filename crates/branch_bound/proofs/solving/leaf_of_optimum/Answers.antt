@@ -1,4 +1,4 @@
-use Rattle.std.proofs.Common.{rules, FitsSigned, refl, subst, arith, List}
+use Rattle.std.proofs.Common.{rules, FitsSigned, refl, subst, arith, inl, List}
 use Rattle.std.specs.Int.{w128}
 use Rattle.std.proofs.lemmas.Int.{ints, to_z-of_z}
 use Rattle.std.specs.Prelude.{ℤ}
@@ -24,7 +24,7 @@ returns-then-optimum-gt-GREATEST_SCALE c =
     let own = subst (λ (point : List ℤ). AsksForNothing c.args.road.now c.args.optimum.den point) c.as_slice.ensures none in
     let past = simp to_z-of_z at c.if-optimum-gt-GREATEST_SCALE.true in
     denominator_solved c.args.road.now c.args.best.now c.args.range c.args.optimum c.args.proved _ c.requires.best c.requires.optimum refl
-    own.whole (omega (arith, ints, past)) c.past_plans.ensures
+    own.whole own.exact (omega (arith, ints, past)) (inl c.past_plans.ensures)
 
 pub plan_found-requires-clause-den : goal.plan_found-requires-clause-den
 plan_found-requires-clause-den c =
@@ -43,6 +43,6 @@ returns-in-Ok c =
     let scale : IsScale c.args.optimum.den = den_scale c.args.optimum.den c.requires.optimum.own_optimum.den_from_one (λ past. omega (arith, ints, small, past)) in
     let priced : IsPricedBest road program c.args.optimum.den c.as_slice-2.result.now c.in-Ok.found = simp to_z-of_z at c.in-Ok.ensures in
     whole_solved road c.args.range c.args.optimum c.args.proved c.in-Ok.found c.args.best.now _ c.requires.optimum
-    own.whole (own.exact scale.at_most)
+    own.whole own.exact
     (subst (λ (point : List ℤ). IsPricedBest road program c.args.optimum.den point c.in-Ok.found) c.as_slice-2.ensures priced)
     c.requires.best c.whole_leaf.ensures

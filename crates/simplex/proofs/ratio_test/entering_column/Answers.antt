@@ -1,7 +1,7 @@
 use Rattle.std.proofs.Common.{length, arith, sym}
 use Rattle.sparse_rows.proofs.LinesLemmas.{line_wider}
 use Rattle.simplex.specs.inside.Choices.{MayEnter}
-use Rattle.simplex.proofs.Ratios.{best_none, best_skipped, best_replaced, best_kept, best_wide, t_end, t_entry, best_chosen, toward_same}
+use Rattle.simplex.proofs.Ratios.{best_none, best_skipped, best_replaced, best_kept, t_end, t_entry, best_chosen, toward_same}
 use Rattle.simplex.proofs.ratio_test.entering_column.Goals as goal
 
 pub loop-term-init : goal.loop-term-init
@@ -18,8 +18,8 @@ loop-term-preserved-then-not-may_enter g c =
     (λ h. let yes = c.may_enter.ensures.all h.other h.movable (toward_same c.args.broken _ _ _ _ _ here (sym pivot) h.toward) in
     let no_more = c.if-not-may_enter.true in absurd (cc))
 
-pub returns-in_default-clause-wide : goal.returns-in_default-clause-wide
-returns-in_default-clause-wide g c =
+pub loop-term-preserved-then-not-is_ratio_less : goal.loop-term-preserved-then-not-is_ratio_less
+loop-term-preserved-then-not-is_ratio_less g c =
     let pivot = c.entry-pivot.ensures (length c.args.low.now) (line_wider g.W.Whole.meaning 1 0 (length c.args.low.now) c.args.row.now (omega arith) c.requires.line) in
     let here = t_entry g.W.Whole.meaning c.args.row.now c.args.costs.now c.args.basic c.args.low.now c.args.high.now c.args.has_high.now c.args.at_high.now c.args.broken (length c.args.low.now) c.loop-term.term-index c.loop-term.best _ _ c.loop-term.invariant c.term-item.result c.loop-term-test.true c.term-item.is in
     let enters : MayEnter g.W.Whole.meaning c.args.row.now c.args.basic c.args.low.now c.args.high.now c.args.has_high.now c.args.at_high.now c.args.broken c.term-item.result.column = record {
@@ -28,21 +28,7 @@ returns-in_default-clause-wide g c =
       toward = toward_same c.args.broken _ _ _ _ _ (sym here) pivot (c.may_enter.ensures.toward c.if-not-may_enter.false);
     } in
     let cost = c.entry-cost.ensures (length c.args.low.now) c.requires.costs in
-    let law = g.met.W.Whole.in_range c.term-item.result.value in
-    let wider = c.requires.wider in
-    best_wide g.W.Whole.meaning c.args.row.now c.args.costs.now c.args.basic c.args.low.now c.args.high.now c.args.has_high.now c.args.at_high.now c.args.broken (length c.args.low.now) c.loop-term.term-index c.loop-term.best _ _ c.loop-term.invariant c.term-item.result c.loop-term-test.true c.term-item.is enters _ cost g.T.Whole.greatest (omega (arith, law)) c.in_default.ensures.wide
-
-pub loop-term-preserved-then-not-is_less : goal.loop-term-preserved-then-not-is_less
-loop-term-preserved-then-not-is_less g c =
-    let pivot = c.entry-pivot.ensures (length c.args.low.now) (line_wider g.W.Whole.meaning 1 0 (length c.args.low.now) c.args.row.now (omega arith) c.requires.line) in
-    let here = t_entry g.W.Whole.meaning c.args.row.now c.args.costs.now c.args.basic c.args.low.now c.args.high.now c.args.has_high.now c.args.at_high.now c.args.broken (length c.args.low.now) c.loop-term.term-index c.loop-term.best _ _ c.loop-term.invariant c.term-item.result c.loop-term-test.true c.term-item.is in
-    let enters : MayEnter g.W.Whole.meaning c.args.row.now c.args.basic c.args.low.now c.args.high.now c.args.has_high.now c.args.at_high.now c.args.broken c.term-item.result.column = record {
-      other = c.may_enter.ensures.other c.if-not-may_enter.false;
-      movable = c.may_enter.ensures.movable c.if-not-may_enter.false;
-      toward = toward_same c.args.broken _ _ _ _ _ (sym here) pivot (c.may_enter.ensures.toward c.if-not-may_enter.false);
-    } in
-    let cost = c.entry-cost.ensures (length c.args.low.now) c.requires.costs in
-    best_kept g.W.Whole.meaning c.args.row.now c.args.costs.now c.args.basic c.args.low.now c.args.high.now c.args.has_high.now c.args.at_high.now c.args.broken (length c.args.low.now) c.loop-term.term-index c.loop-term.best _ _ c.loop-term.invariant c.term-item.result c.loop-term-test.true c.term-item.is enters _ cost (λ less. let yes = c.in-Some.ensures.less.1 less in let no_more = c.if-not-is_less.true in absurd (cc))
+    best_kept g.W.Whole.meaning c.args.row.now c.args.costs.now c.args.basic c.args.low.now c.args.high.now c.args.has_high.now c.args.at_high.now c.args.broken (length c.args.low.now) c.loop-term.term-index c.loop-term.best _ _ c.loop-term.invariant c.term-item.result c.loop-term-test.true c.term-item.is enters _ cost (λ less. let yes = c.is_ratio_less.ensures.1 less in let no_more = c.if-not-is_ratio_less.true in absurd (cc))
 
 pub loop-term-preserved : goal.loop-term-preserved
 loop-term-preserved g c =
@@ -54,7 +40,7 @@ loop-term-preserved g c =
       toward = toward_same c.args.broken _ _ _ _ _ (sym here) pivot (c.may_enter.ensures.toward c.if-not-may_enter.false);
     } in
     let cost = c.entry-cost.ensures (length c.args.low.now) c.requires.costs in
-    best_replaced g.W.Whole.meaning c.args.row.now c.args.costs.now c.args.basic c.args.low.now c.args.high.now c.args.has_high.now c.args.at_high.now c.args.broken (length c.args.low.now) c.loop-term.term-index c.loop-term.best _ _ c.loop-term.invariant c.term-item.result c.loop-term-test.true c.term-item.is enters _ cost (c.in-Some.ensures.less.0 c.if-not-is_less.false)
+    best_replaced g.W.Whole.meaning c.args.row.now c.args.costs.now c.args.basic c.args.low.now c.args.high.now c.args.has_high.now c.args.at_high.now c.args.broken (length c.args.low.now) c.loop-term.term-index c.loop-term.best _ _ c.loop-term.invariant c.term-item.result c.loop-term-test.true c.term-item.is enters _ cost (c.is_ratio_less.ensures.0 c.if-not-is_ratio_less.false)
 
 pub returns-clause-chosen : goal.returns-clause-chosen
 returns-clause-chosen g c =

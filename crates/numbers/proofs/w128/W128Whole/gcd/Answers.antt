@@ -15,6 +15,6 @@ returns c =
     let right = simp to_z-of_z at c.unsigned_abs-2.ensures.value in
     let first = a.in_range in
     let second = b.in_range in
-    let g = c.gcd_wide-divisor.result in
+    let g = c.magnitude_gcd-divisor.result in
     let small : g < 2 ^ 127 = omega arith in
-    greatest_of_sizes a.value b.value _ _ g _ left right c.gcd_wide-divisor.ensures.greatest (to_z_pos w128 g small)
+    greatest_of_sizes a.value b.value _ _ g _ left right c.magnitude_gcd-divisor.ensures.greatest (to_z_pos w128 g small)

@@ -1,5 +1,4 @@
 use Rattle.std.proofs.Common.{◌≡◌, ◌+◌, ◌≤◌, ℕ, length, get_or, replicate, false, arith, ap, ◌∙◌}
-use Rattle.std.specs.Prelude.{vec_capacity}
 use Rattle.programs.specs.Programs.{column_count, row_count}
 use Rattle.simplex.proofs.Starting.{started, start_reached, start_kept, start_in_range, length_replicate}
 use Rattle.simplex.proofs.table.Tableau.begin.Goals as goal
@@ -16,8 +15,8 @@ invariant_of-result g c =
     let standing : c.in_ok-at_high.at_high.items ≡ replicate (column_count c.args.lp.now.milp.now + row_count c.args.lp.now.milp.now + 1) false = c.in_ok-at_high.ensures ∙ ap (λ (k : ℕ). replicate k false) end in
     let marks : length c.in_ok-marks.marks.items ≡ row_count c.args.lp.now.milp.now + 1 = ap length c.in_ok-marks.ensures ∙ (length_replicate (c.rows-rows.result + 1) ∙ (omega arith)) in
     let width : c.fill_numbers.new.lines.width ≡ column_count c.args.lp.now.milp.now + row_count c.args.lp.now.milp.now + 1 = (rw c.in-Ok.is at c.in_ok-filled.ensures.width) ∙ (ap (λ s. s.width) c.in_ok-lines.ensures ∙ end) in
-    let cells : vec_capacity c.in_ok-cells.cells ≡ column_count c.args.lp.now.milp.now + row_count c.args.lp.now.milp.now + 1 = c.in_ok-cells.ensures.exact ∙ end in
-    start_kept g.W.Whole.meaning c.args.lp.now.milp.now c.columns-columns.ensures.limits c.fill_numbers.new.lines.rows c.fill_numbers.new.low.items c.fill_numbers.new.high.items c.fill_numbers.new.has_high.items c.in_ok-basis.basis.items c.in_ok-at_high.at_high.items bounds lines count slacks standing (length c.in_ok-marks.marks.items) c.fill_numbers.new.lines.width (vec_capacity c.in_ok-cells.cells) marks (rw c.in-Ok.is at c.in_ok-filled.ensures.count) width cells
+    let cells : c.in_ok-cells.cells ≡ column_count c.args.lp.now.milp.now + row_count c.args.lp.now.milp.now + 1 = c.in_ok-cells.ensures ∙ end in
+    start_kept g.W.Whole.meaning c.args.lp.now.milp.now c.columns-columns.ensures.limits c.fill_numbers.new.lines.rows c.fill_numbers.new.low.items c.fill_numbers.new.high.items c.fill_numbers.new.has_high.items c.in_ok-basis.basis.items c.in_ok-at_high.at_high.items bounds lines count slacks standing (length c.in_ok-marks.marks.items) c.fill_numbers.new.lines.width c.in_ok-cells.cells marks (rw c.in-Ok.is at c.in_ok-filled.ensures.count) width cells
 
 pub returns-in-Ok-clause-start : goal.returns-in-Ok-clause-start
 returns-in-Ok-clause-start g c =

@@ -1,5 +1,4 @@
 use Rattle.std.proofs.Common.{◌≡◌, ℕ, List, [], get_or, length, set, Bool, arith, ap, sym, ◌∙◌, subst}
-use Rattle.std.specs.Prelude.{vec_capacity}
 use Rattle.std.specs.Vec.{with_items}
 use Rattle.std.proofs.lemmas.List.{with_items_is}
 use Rattle.programs.specs.Programs.{column_count}
@@ -14,12 +13,12 @@ use Rattle.simplex.proofs.table.Tableau.change.Goals as goal
 pub exchange_rows-requires-clause-rising : goal.exchange_rows-requires-clause-rising
 exchange_rows-requires-clause-rising g c = λ k l.
     let m : length c.deref_mut.result.now ≡ length c.self.inside.marks.items = ap length c.deref_mut.ensures.value in
-    rising_rows g.W.Whole.meaning c.self.inside.milp.now c.self.inside.low.items c.self.inside.high.items c.self.inside.has_high.items c.self.inside.lines.rows c.self.inside.basis.items c.self.inside.at_high.items (length c.self.inside.marks.items) c.self.inside.lines.width (vec_capacity c.self.inside.cells) c.self.invariant k (omega arith)
+    rising_rows g.W.Whole.meaning c.self.inside.milp.now c.self.inside.low.items c.self.inside.high.items c.self.inside.has_high.items c.self.inside.lines.rows c.self.inside.basis.items c.self.inside.at_high.items (length c.self.inside.marks.items) c.self.inside.lines.width c.self.inside.cells c.self.invariant k (omega arith)
 
 pub exchange_rows-requires-clause-entries : goal.exchange_rows-requires-clause-entries
 exchange_rows-requires-clause-entries g c = λ k l.
     let m : length c.deref_mut.result.now ≡ length c.self.inside.marks.items = ap length c.deref_mut.ensures.value in
-    leaves g.W.Whole.meaning c.self.inside.milp.now c.self.inside.low.items c.self.inside.high.items c.self.inside.has_high.items c.self.inside.lines.rows c.self.inside.basis.items c.self.inside.at_high.items (length c.self.inside.marks.items) c.self.inside.lines.width (vec_capacity c.self.inside.cells) c.self.invariant c.args.swap (subst (λ (s : State g.row.W.Denot). IsGood (tableau_of g.W.Whole.meaning s) c.args.swap) (sym c.self.view_is) c.requires) k (omega arith)
+    leaves g.W.Whole.meaning c.self.inside.milp.now c.self.inside.low.items c.self.inside.high.items c.self.inside.has_high.items c.self.inside.lines.rows c.self.inside.basis.items c.self.inside.at_high.items (length c.self.inside.marks.items) c.self.inside.lines.width c.self.inside.cells c.self.invariant c.args.swap (subst (λ (s : State g.row.W.Denot). IsGood (tableau_of g.W.Whole.meaning s) c.args.swap) (sym c.self.view_is) c.requires) k (omega arith)
 
 pub invariant_of-self : goal.invariant_of-self
 invariant_of-self g c =
@@ -35,12 +34,12 @@ invariant_of-self g c =
     let marks_is = with_items_is c.self.inside.marks c.exchange_rows.new.marks (omega arith) in
     let basis_is = with_items_is c.self.inside.basis c.exchange_rows.new.basis (omega arith) in
     let high_is = with_items_is c.self.inside.at_high c.exchange_rows.new.at_high (omega arith) in
-    let same = same_state g.W.Whole.meaning c.self.inside.milp.now c.self.inside.low.items c.self.inside.high.items c.self.inside.has_high.items c.self.inside.lines.rows c.self.inside.basis.items c.self.inside.at_high.items (length c.self.inside.marks.items) c.self.inside.lines.width (vec_capacity c.self.inside.cells) c.self.invariant c.exchange_rows.new.lines.rows (with_items c.self.inside.basis c.exchange_rows.new.basis).items (with_items c.self.inside.at_high c.exchange_rows.new.at_high).items c.exchange_rows.ensures.count
+    let same = same_state g.W.Whole.meaning c.self.inside.milp.now c.self.inside.low.items c.self.inside.high.items c.self.inside.has_high.items c.self.inside.lines.rows c.self.inside.basis.items c.self.inside.at_high.items (length c.self.inside.marks.items) c.self.inside.lines.width c.self.inside.cells c.self.invariant c.exchange_rows.new.lines.rows (with_items c.self.inside.basis c.exchange_rows.new.basis).items (with_items c.self.inside.at_high c.exchange_rows.new.at_high).items c.exchange_rows.ensures.count
     (λ k l. c.in-Err.ensures.same k (let e = m in omega arith))
     (basis_is ∙ (c.in-Err.ensures.same_basis ∙ c.deref_mut-2.ensures.value))
     (high_is ∙ (c.in-Err.ensures.same_standing ∙ c.deref_mut-3.ensures.value)) in
-    kept_again g.W.Whole.meaning c.self.inside.milp.now c.self.inside.low.items c.self.inside.high.items c.self.inside.has_high.items c.self.inside.lines.rows c.self.inside.basis.items c.self.inside.at_high.items (length c.self.inside.marks.items) c.self.inside.lines.width (vec_capacity c.self.inside.cells) c.self.invariant c.exchange_rows.new.lines.rows (with_items c.self.inside.basis c.exchange_rows.new.basis).items (with_items c.self.inside.at_high c.exchange_rows.new.at_high).items (length (with_items c.self.inside.marks c.exchange_rows.new.marks).items) c.exchange_rows.new.lines.width (vec_capacity c.exchange_rows.new.cells)
-    c.exchange_rows.ensures.count (ap length marks_is ∙ (c.exchange_rows.ensures.marks ∙ m)) c.exchange_rows.ensures.width c.exchange_rows.ensures.capacity
+    kept_again g.W.Whole.meaning c.self.inside.milp.now c.self.inside.low.items c.self.inside.high.items c.self.inside.has_high.items c.self.inside.lines.rows c.self.inside.basis.items c.self.inside.at_high.items (length c.self.inside.marks.items) c.self.inside.lines.width c.self.inside.cells c.self.invariant c.exchange_rows.new.lines.rows (with_items c.self.inside.basis c.exchange_rows.new.basis).items (with_items c.self.inside.at_high c.exchange_rows.new.at_high).items (length (with_items c.self.inside.marks c.exchange_rows.new.marks).items) c.exchange_rows.new.lines.width c.exchange_rows.new.cells
+    c.exchange_rows.ensures.count (ap length marks_is ∙ (c.exchange_rows.ensures.marks ∙ m)) c.exchange_rows.ensures.width c.exchange_rows.ensures.room
     (subst (λ (s : State g.row.W.Denot). KeepsLaws g.W.Whole.meaning s) (sym same) c.self.invariant.reached)
 
 pub returns-in-Err-clause-same : goal.returns-in-Err-clause-same
@@ -57,7 +56,7 @@ returns-in-Err-clause-same g c =
     let marks_is = with_items_is c.self.inside.marks c.exchange_rows.new.marks (omega arith) in
     let basis_is = with_items_is c.self.inside.basis c.exchange_rows.new.basis (omega arith) in
     let high_is = with_items_is c.self.inside.at_high c.exchange_rows.new.at_high (omega arith) in
-    let same = same_state g.W.Whole.meaning c.self.inside.milp.now c.self.inside.low.items c.self.inside.high.items c.self.inside.has_high.items c.self.inside.lines.rows c.self.inside.basis.items c.self.inside.at_high.items (length c.self.inside.marks.items) c.self.inside.lines.width (vec_capacity c.self.inside.cells) c.self.invariant c.exchange_rows.new.lines.rows (with_items c.self.inside.basis c.exchange_rows.new.basis).items (with_items c.self.inside.at_high c.exchange_rows.new.at_high).items c.exchange_rows.ensures.count
+    let same = same_state g.W.Whole.meaning c.self.inside.milp.now c.self.inside.low.items c.self.inside.high.items c.self.inside.has_high.items c.self.inside.lines.rows c.self.inside.basis.items c.self.inside.at_high.items (length c.self.inside.marks.items) c.self.inside.lines.width c.self.inside.cells c.self.invariant c.exchange_rows.new.lines.rows (with_items c.self.inside.basis c.exchange_rows.new.basis).items (with_items c.self.inside.at_high c.exchange_rows.new.at_high).items c.exchange_rows.ensures.count
     (λ k l. c.in-Err.ensures.same k (let e = m in omega arith))
     (basis_is ∙ (c.in-Err.ensures.same_basis ∙ c.deref_mut-2.ensures.value))
     (high_is ∙ (c.in-Err.ensures.same_standing ∙ c.deref_mut-3.ensures.value)) in
@@ -68,7 +67,7 @@ returns-in-Err-clause-wide g c =
     let m : length c.deref_mut.result.now ≡ length c.self.inside.marks.items = ap length c.deref_mut.ensures.value in
     let l = c.in-Err.ensures.wide.0 in
     subst (λ (s : State g.row.W.Denot). IsOutOfRange g.W.Whole.greatest (tableau_of g.W.Whole.meaning s) (Cell c.args.swap c.in-Err.row c.in-Err.col)) c.self.view_is
-    (wide_op g.W.Whole.meaning c.self.inside.milp.now c.self.inside.low.items c.self.inside.high.items c.self.inside.has_high.items c.self.inside.lines.rows c.self.inside.basis.items c.self.inside.at_high.items (length c.self.inside.marks.items) c.self.inside.lines.width (vec_capacity c.self.inside.cells) c.self.invariant c.args.swap (subst (λ (s : State g.row.W.Denot). IsGood (tableau_of g.W.Whole.meaning s) c.args.swap) (sym c.self.view_is) c.requires) g.W.Whole.greatest c.in-Err.row c.in-Err.col (omega arith) c.in-Err.ensures.wide.1)
+    (wide_op g.W.Whole.meaning c.self.inside.milp.now c.self.inside.low.items c.self.inside.high.items c.self.inside.has_high.items c.self.inside.lines.rows c.self.inside.basis.items c.self.inside.at_high.items (length c.self.inside.marks.items) c.self.inside.lines.width c.self.inside.cells c.self.invariant c.args.swap (subst (λ (s : State g.row.W.Denot). IsGood (tableau_of g.W.Whole.meaning s) c.args.swap) (sym c.self.view_is) c.requires) g.W.Whole.greatest c.in-Err.row c.in-Err.col (omega arith) c.in-Err.ensures.wide.1)
 
 pub returns-in-Err-clause-laws : goal.returns-in-Err-clause-laws
 returns-in-Err-clause-laws g c =
@@ -84,7 +83,7 @@ returns-in-Err-clause-laws g c =
     let marks_is = with_items_is c.self.inside.marks c.exchange_rows.new.marks (omega arith) in
     let basis_is = with_items_is c.self.inside.basis c.exchange_rows.new.basis (omega arith) in
     let high_is = with_items_is c.self.inside.at_high c.exchange_rows.new.at_high (omega arith) in
-    let same = same_state g.W.Whole.meaning c.self.inside.milp.now c.self.inside.low.items c.self.inside.high.items c.self.inside.has_high.items c.self.inside.lines.rows c.self.inside.basis.items c.self.inside.at_high.items (length c.self.inside.marks.items) c.self.inside.lines.width (vec_capacity c.self.inside.cells) c.self.invariant c.exchange_rows.new.lines.rows (with_items c.self.inside.basis c.exchange_rows.new.basis).items (with_items c.self.inside.at_high c.exchange_rows.new.at_high).items c.exchange_rows.ensures.count
+    let same = same_state g.W.Whole.meaning c.self.inside.milp.now c.self.inside.low.items c.self.inside.high.items c.self.inside.has_high.items c.self.inside.lines.rows c.self.inside.basis.items c.self.inside.at_high.items (length c.self.inside.marks.items) c.self.inside.lines.width c.self.inside.cells c.self.invariant c.exchange_rows.new.lines.rows (with_items c.self.inside.basis c.exchange_rows.new.basis).items (with_items c.self.inside.at_high c.exchange_rows.new.at_high).items c.exchange_rows.ensures.count
     (λ k l. c.in-Err.ensures.same k (let e = m in omega arith))
     (basis_is ∙ (c.in-Err.ensures.same_basis ∙ c.deref_mut-2.ensures.value))
     (high_is ∙ (c.in-Err.ensures.same_standing ∙ c.deref_mut-3.ensures.value)) in
@@ -104,7 +103,7 @@ returns-in-Err-clause-points g c =
     let marks_is = with_items_is c.self.inside.marks c.exchange_rows.new.marks (omega arith) in
     let basis_is = with_items_is c.self.inside.basis c.exchange_rows.new.basis (omega arith) in
     let high_is = with_items_is c.self.inside.at_high c.exchange_rows.new.at_high (omega arith) in
-    let same = same_state g.W.Whole.meaning c.self.inside.milp.now c.self.inside.low.items c.self.inside.high.items c.self.inside.has_high.items c.self.inside.lines.rows c.self.inside.basis.items c.self.inside.at_high.items (length c.self.inside.marks.items) c.self.inside.lines.width (vec_capacity c.self.inside.cells) c.self.invariant c.exchange_rows.new.lines.rows (with_items c.self.inside.basis c.exchange_rows.new.basis).items (with_items c.self.inside.at_high c.exchange_rows.new.at_high).items c.exchange_rows.ensures.count
+    let same = same_state g.W.Whole.meaning c.self.inside.milp.now c.self.inside.low.items c.self.inside.high.items c.self.inside.has_high.items c.self.inside.lines.rows c.self.inside.basis.items c.self.inside.at_high.items (length c.self.inside.marks.items) c.self.inside.lines.width c.self.inside.cells c.self.invariant c.exchange_rows.new.lines.rows (with_items c.self.inside.basis c.exchange_rows.new.basis).items (with_items c.self.inside.at_high c.exchange_rows.new.at_high).items c.exchange_rows.ensures.count
     (λ k l. c.in-Err.ensures.same k (let e = m in omega arith))
     (basis_is ∙ (c.in-Err.ensures.same_basis ∙ c.deref_mut-2.ensures.value))
     (high_is ∙ (c.in-Err.ensures.same_standing ∙ c.deref_mut-3.ensures.value)) in
@@ -124,9 +123,9 @@ invariant_of-self-2 g c =
     let marks_is = with_items_is c.self.inside.marks c.exchange_rows.new.marks (omega arith) in
     let basis_is = with_items_is c.self.inside.basis c.exchange_rows.new.basis (omega arith) in
     let high_is = with_items_is c.self.inside.at_high c.exchange_rows.new.at_high (omega arith) in
-    kept_again g.W.Whole.meaning c.self.inside.milp.now c.self.inside.low.items c.self.inside.high.items c.self.inside.has_high.items c.self.inside.lines.rows c.self.inside.basis.items c.self.inside.at_high.items (length c.self.inside.marks.items) c.self.inside.lines.width (vec_capacity c.self.inside.cells) c.self.invariant c.exchange_rows.new.lines.rows (with_items c.self.inside.basis c.exchange_rows.new.basis).items (with_items c.self.inside.at_high c.exchange_rows.new.at_high).items (length (with_items c.self.inside.marks c.exchange_rows.new.marks).items) c.exchange_rows.new.lines.width (vec_capacity c.exchange_rows.new.cells)
-    c.exchange_rows.ensures.count (ap length marks_is ∙ (c.exchange_rows.ensures.marks ∙ m)) c.exchange_rows.ensures.width c.exchange_rows.ensures.capacity
-    (after_reached g.W.Whole.meaning c.self.inside.milp.now c.self.inside.low.items c.self.inside.high.items c.self.inside.has_high.items c.self.inside.lines.rows c.self.inside.basis.items c.self.inside.at_high.items (length c.self.inside.marks.items) c.self.inside.lines.width (vec_capacity c.self.inside.cells) c.self.invariant c.args.swap (subst (λ (s : State g.row.W.Denot). IsGood (tableau_of g.W.Whole.meaning s) c.args.swap) (sym c.self.view_is) c.requires) c.exchange_rows.new.lines.rows (with_items c.self.inside.basis c.exchange_rows.new.basis).items (with_items c.self.inside.at_high c.exchange_rows.new.at_high).items c.exchange_rows.ensures.count
+    kept_again g.W.Whole.meaning c.self.inside.milp.now c.self.inside.low.items c.self.inside.high.items c.self.inside.has_high.items c.self.inside.lines.rows c.self.inside.basis.items c.self.inside.at_high.items (length c.self.inside.marks.items) c.self.inside.lines.width c.self.inside.cells c.self.invariant c.exchange_rows.new.lines.rows (with_items c.self.inside.basis c.exchange_rows.new.basis).items (with_items c.self.inside.at_high c.exchange_rows.new.at_high).items (length (with_items c.self.inside.marks c.exchange_rows.new.marks).items) c.exchange_rows.new.lines.width c.exchange_rows.new.cells
+    c.exchange_rows.ensures.count (ap length marks_is ∙ (c.exchange_rows.ensures.marks ∙ m)) c.exchange_rows.ensures.width c.exchange_rows.ensures.room
+    (after_reached g.W.Whole.meaning c.self.inside.milp.now c.self.inside.low.items c.self.inside.high.items c.self.inside.has_high.items c.self.inside.lines.rows c.self.inside.basis.items c.self.inside.at_high.items (length c.self.inside.marks.items) c.self.inside.lines.width c.self.inside.cells c.self.invariant c.args.swap (subst (λ (s : State g.row.W.Denot). IsGood (tableau_of g.W.Whole.meaning s) c.args.swap) (sym c.self.view_is) c.requires) c.exchange_rows.new.lines.rows (with_items c.self.inside.basis c.exchange_rows.new.basis).items (with_items c.self.inside.at_high c.exchange_rows.new.at_high).items c.exchange_rows.ensures.count
     (ap length high_is ∙ (c.exchange_rows.ensures.standing ∙ h))
     (basis_is ∙ (c.in-Ok.ensures.basis ∙ ap (λ (xs : List ℕ). set xs c.args.swap.row c.args.swap.col) c.deref_mut-2.ensures.value))
     (λ k l. c.in-Ok.ensures.changed k (let e = m in omega arith))
@@ -149,7 +148,7 @@ returns-clause-result g c =
     let basis_is = with_items_is c.self.inside.basis c.exchange_rows.new.basis (omega arith) in
     let high_is = with_items_is c.self.inside.at_high c.exchange_rows.new.at_high (omega arith) in
     let P : State g.row.W.Denot → Type 0 = λ s. IsResult (tableau_of g.W.Whole.meaning s) c.args.swap (tableau_of g.W.Whole.meaning (state g.W.Whole.meaning c.self.inside.milp.now c.self.inside.low.items c.self.inside.high.items c.self.inside.has_high.items c.exchange_rows.new.lines.rows (with_items c.self.inside.basis c.exchange_rows.new.basis).items (with_items c.self.inside.at_high c.exchange_rows.new.at_high).items)) in
-    subst P c.self.view_is (after_result g.W.Whole.meaning c.self.inside.milp.now c.self.inside.low.items c.self.inside.high.items c.self.inside.has_high.items c.self.inside.lines.rows c.self.inside.basis.items c.self.inside.at_high.items (length c.self.inside.marks.items) c.self.inside.lines.width (vec_capacity c.self.inside.cells) c.self.invariant c.args.swap (subst (λ (s : State g.row.W.Denot). IsGood (tableau_of g.W.Whole.meaning s) c.args.swap) (sym c.self.view_is) c.requires) c.exchange_rows.new.lines.rows (with_items c.self.inside.basis c.exchange_rows.new.basis).items (with_items c.self.inside.at_high c.exchange_rows.new.at_high).items c.exchange_rows.ensures.count
+    subst P c.self.view_is (after_result g.W.Whole.meaning c.self.inside.milp.now c.self.inside.low.items c.self.inside.high.items c.self.inside.has_high.items c.self.inside.lines.rows c.self.inside.basis.items c.self.inside.at_high.items (length c.self.inside.marks.items) c.self.inside.lines.width c.self.inside.cells c.self.invariant c.args.swap (subst (λ (s : State g.row.W.Denot). IsGood (tableau_of g.W.Whole.meaning s) c.args.swap) (sym c.self.view_is) c.requires) c.exchange_rows.new.lines.rows (with_items c.self.inside.basis c.exchange_rows.new.basis).items (with_items c.self.inside.at_high c.exchange_rows.new.at_high).items c.exchange_rows.ensures.count
     (ap length high_is ∙ (c.exchange_rows.ensures.standing ∙ h))
     (basis_is ∙ (c.in-Ok.ensures.basis ∙ ap (λ (xs : List ℕ). set xs c.args.swap.row c.args.swap.col) c.deref_mut-2.ensures.value))
     (λ k l. c.in-Ok.ensures.changed k (let e = m in omega arith))
@@ -171,7 +170,7 @@ returns-clause-laws g c =
     let marks_is = with_items_is c.self.inside.marks c.exchange_rows.new.marks (omega arith) in
     let basis_is = with_items_is c.self.inside.basis c.exchange_rows.new.basis (omega arith) in
     let high_is = with_items_is c.self.inside.at_high c.exchange_rows.new.at_high (omega arith) in
-    (after_reached g.W.Whole.meaning c.self.inside.milp.now c.self.inside.low.items c.self.inside.high.items c.self.inside.has_high.items c.self.inside.lines.rows c.self.inside.basis.items c.self.inside.at_high.items (length c.self.inside.marks.items) c.self.inside.lines.width (vec_capacity c.self.inside.cells) c.self.invariant c.args.swap (subst (λ (s : State g.row.W.Denot). IsGood (tableau_of g.W.Whole.meaning s) c.args.swap) (sym c.self.view_is) c.requires) c.exchange_rows.new.lines.rows (with_items c.self.inside.basis c.exchange_rows.new.basis).items (with_items c.self.inside.at_high c.exchange_rows.new.at_high).items c.exchange_rows.ensures.count
+    (after_reached g.W.Whole.meaning c.self.inside.milp.now c.self.inside.low.items c.self.inside.high.items c.self.inside.has_high.items c.self.inside.lines.rows c.self.inside.basis.items c.self.inside.at_high.items (length c.self.inside.marks.items) c.self.inside.lines.width c.self.inside.cells c.self.invariant c.args.swap (subst (λ (s : State g.row.W.Denot). IsGood (tableau_of g.W.Whole.meaning s) c.args.swap) (sym c.self.view_is) c.requires) c.exchange_rows.new.lines.rows (with_items c.self.inside.basis c.exchange_rows.new.basis).items (with_items c.self.inside.at_high c.exchange_rows.new.at_high).items c.exchange_rows.ensures.count
     (ap length high_is ∙ (c.exchange_rows.ensures.standing ∙ h))
     (basis_is ∙ (c.in-Ok.ensures.basis ∙ ap (λ (xs : List ℕ). set xs c.args.swap.row c.args.swap.col) c.deref_mut-2.ensures.value))
     (λ k l. c.in-Ok.ensures.changed k (let e = m in omega arith))
@@ -193,7 +192,7 @@ returns-clause-points g c =
     let marks_is = with_items_is c.self.inside.marks c.exchange_rows.new.marks (omega arith) in
     let basis_is = with_items_is c.self.inside.basis c.exchange_rows.new.basis (omega arith) in
     let high_is = with_items_is c.self.inside.at_high c.exchange_rows.new.at_high (omega arith) in
-    reached_points g.W.Whole.meaning (state g.W.Whole.meaning c.self.inside.milp.now c.self.inside.low.items c.self.inside.high.items c.self.inside.has_high.items c.exchange_rows.new.lines.rows (with_items c.self.inside.basis c.exchange_rows.new.basis).items (with_items c.self.inside.at_high c.exchange_rows.new.at_high).items) (after_reached g.W.Whole.meaning c.self.inside.milp.now c.self.inside.low.items c.self.inside.high.items c.self.inside.has_high.items c.self.inside.lines.rows c.self.inside.basis.items c.self.inside.at_high.items (length c.self.inside.marks.items) c.self.inside.lines.width (vec_capacity c.self.inside.cells) c.self.invariant c.args.swap (subst (λ (s : State g.row.W.Denot). IsGood (tableau_of g.W.Whole.meaning s) c.args.swap) (sym c.self.view_is) c.requires) c.exchange_rows.new.lines.rows (with_items c.self.inside.basis c.exchange_rows.new.basis).items (with_items c.self.inside.at_high c.exchange_rows.new.at_high).items c.exchange_rows.ensures.count
+    reached_points g.W.Whole.meaning (state g.W.Whole.meaning c.self.inside.milp.now c.self.inside.low.items c.self.inside.high.items c.self.inside.has_high.items c.exchange_rows.new.lines.rows (with_items c.self.inside.basis c.exchange_rows.new.basis).items (with_items c.self.inside.at_high c.exchange_rows.new.at_high).items) (after_reached g.W.Whole.meaning c.self.inside.milp.now c.self.inside.low.items c.self.inside.high.items c.self.inside.has_high.items c.self.inside.lines.rows c.self.inside.basis.items c.self.inside.at_high.items (length c.self.inside.marks.items) c.self.inside.lines.width c.self.inside.cells c.self.invariant c.args.swap (subst (λ (s : State g.row.W.Denot). IsGood (tableau_of g.W.Whole.meaning s) c.args.swap) (sym c.self.view_is) c.requires) c.exchange_rows.new.lines.rows (with_items c.self.inside.basis c.exchange_rows.new.basis).items (with_items c.self.inside.at_high c.exchange_rows.new.at_high).items c.exchange_rows.ensures.count
     (ap length high_is ∙ (c.exchange_rows.ensures.standing ∙ h))
     (basis_is ∙ (c.in-Ok.ensures.basis ∙ ap (λ (xs : List ℕ). set xs c.args.swap.row c.args.swap.col) c.deref_mut-2.ensures.value))
     (λ k l. c.in-Ok.ensures.changed k (let e = m in omega arith))

@@ -62,10 +62,10 @@ returns-in-Err-clause-wide g c =
     let front = get_or-take (row_count c.self.inside.milp.now + 1) c.self.inside.lines.rows c.args.row [] in_front in
     let basic = ap (λ (bs : List ℕ). get_or bs c.args.row 0) c.as_slice-basis.ensures.value in
     let line : c.row.result.now ≡ get_or (state g.W.Whole.meaning c.self.inside.milp.now c.self.inside.low.items c.self.inside.high.items c.self.inside.has_high.items c.self.inside.lines.rows c.self.inside.basis.items c.self.inside.at_high.items).lines c.args.row [] = c.row.ensures ∙ sym front in
-    let law = g.met.W.Whole.below_wide in
+    let law = g.met.W.Narrow.below_wide in
     let size : length c.deref.result.now ≡ length c.self.inside.low.items = ap length c.deref.ensures.value in
     let within : c.in-Err.column < length c.self.inside.low.items = (let l = c.in-Err.ensures.column.1 in omega arith) in
     subst (λ (s : State g.row.W.Denot). IsOutOfRange g.W.Whole.greatest (tableau_of g.W.Whole.meaning s) (Value c.args.row c.in-Err.column)) c.self.view_is
-    (out_weaker g.W.Whole.greatest (2 ^ 127 - 1) (tableau_of g.W.Whole.meaning (state g.W.Whole.meaning c.self.inside.milp.now c.self.inside.low.items c.self.inside.high.items c.self.inside.has_high.items c.self.inside.lines.rows c.self.inside.basis.items c.self.inside.at_high.items)) (Value c.args.row c.in-Err.column) (omega (arith, law))
-    (wide_sum g.W.Whole.meaning (state g.W.Whole.meaning c.self.inside.milp.now c.self.inside.low.items c.self.inside.high.items c.self.inside.has_high.items c.self.inside.lines.rows c.self.inside.basis.items c.self.inside.at_high.items) c.self.invariant.reached c.args.row i_row (2 ^ 127 - 1) c.in-Err.column c.in-Err.ensures.column.0 within
-    (carry (λ (at : ℕ) (ts : List (Term g.row.W.Denot)) (lo hi : List g.row.W.Denot) (hh ah : List Bool). IsWideSum g.W.Whole.meaning ts at lo hi hh ah (2 ^ 127 - 1) c.in-Err.column) basic line c.deref.ensures.value c.deref-2.ensures.value c.deref-3.ensures.value c.deref-4.ensures.value c.in-Err.ensures.wide)))
+    (out_weaker g.W.Whole.greatest (2 ^ 255 - 1) (tableau_of g.W.Whole.meaning (state g.W.Whole.meaning c.self.inside.milp.now c.self.inside.low.items c.self.inside.high.items c.self.inside.has_high.items c.self.inside.lines.rows c.self.inside.basis.items c.self.inside.at_high.items)) (Value c.args.row c.in-Err.column) (omega (arith, law))
+    (wide_sum g.W.Whole.meaning (state g.W.Whole.meaning c.self.inside.milp.now c.self.inside.low.items c.self.inside.high.items c.self.inside.has_high.items c.self.inside.lines.rows c.self.inside.basis.items c.self.inside.at_high.items) c.self.invariant.reached c.args.row i_row (2 ^ 255 - 1) c.in-Err.column c.in-Err.ensures.column.0 within
+    (carry (λ (at : ℕ) (ts : List (Term g.row.W.Denot)) (lo hi : List g.row.W.Denot) (hh ah : List Bool). IsWideSum g.W.Whole.meaning ts at lo hi hh ah (2 ^ 255 - 1) c.in-Err.column) basic line c.deref.ensures.value c.deref-2.ensures.value c.deref-3.ensures.value c.deref-4.ensures.value c.in-Err.ensures.wide)))

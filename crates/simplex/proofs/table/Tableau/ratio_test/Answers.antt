@@ -1,18 +1,16 @@
-use Rattle.std.proofs.Common.{◌≡◌, ℕ, ◌+◌, ◌-◌, ◌^◌, ◌<◌, List, [], get_or, length, Bool, arith, ap, sym, ◌∙◌, subst}
+use Rattle.std.proofs.Common.{◌≡◌, ℕ, ◌+◌, ◌<◌, List, [], get_or, length, Bool, arith, ap, sym, ◌∙◌, subst}
 use Rattle.std.proofs.lemmas.List.{get_or-take}
 use Rattle.term_store.specs.declared.term.Term.{Term}
 use Rattle.programs.specs.Programs.{row_count}
 use Rattle.tableau.specs.Tableaux.{IsRow}
 use Rattle.tableau.specs.Exchanges.{IsOutside}
 use Rattle.tableau.specs.Ends.{IsEmptyRow}
-use Rattle.tableau.specs.Operations.{IsOutOfRange}
-use Rattle.tableau.specs.declared.op.Op.TheVariants.{Ratio}
 use Rattle.sparse_rows.specs.Lines.{IsLine}
 use Rattle.simplex.specs.States.{State, tableau_of}
-use Rattle.simplex.specs.inside.Choices.{MayEnter, IsChosen, IsWideRatio}
+use Rattle.simplex.specs.inside.Choices.{MayEnter, IsChosen}
 use Rattle.simplex.proofs.Keeping.{state}
-use Rattle.simplex.proofs.Breaks.{carry, some_weaker, none_weaker, out_weaker}
-use Rattle.simplex.proofs.Selections.{line_first, eligible_of_enters, empty_of_none, wide_ratio}
+use Rattle.simplex.proofs.Breaks.{carry, some_weaker, none_weaker}
+use Rattle.simplex.proofs.Selections.{line_first, eligible_of_enters, empty_of_none}
 use Rattle.simplex.proofs.table.Tableau.ratio_test.Goals as goal
 
 pub entering_column-requires-clause-line : goal.entering_column-requires-clause-line
@@ -33,34 +31,8 @@ entering_column-requires-clause-costs g c =
     subst (λ (n : ℕ). IsLine g.W.Whole.meaning 0 n c.row-2.result.now) (sym (ap length c.deref.ensures.value))
     (subst (λ (ts : List (Term g.row.W.Denot)). IsLine g.W.Whole.meaning 0 (length c.self.inside.low.items) ts) (sym (c.row-2.ensures ∙ sym front)) (c.self.invariant.reached.shape.rising 0 (omega arith)))
 
-pub overflow_cast-result-in-Err : goal.overflow_cast-result-in-Err
-overflow_cast-result-in-Err g c =
-    let i_row : IsRow (tableau_of g.W.Whole.meaning (state g.W.Whole.meaning c.self.inside.milp.now c.self.inside.low.items c.self.inside.high.items c.self.inside.has_high.items c.self.inside.lines.rows c.self.inside.basis.items c.self.inside.at_high.items)) c.args.row = subst (λ (s : State g.row.W.Denot). IsRow (tableau_of g.W.Whole.meaning s) c.args.row) (sym c.self.view_is) c.requires.row in
-    let in_front : c.args.row < row_count c.self.inside.milp.now + 1 = (let l = i_row.1 in omega arith) in
-    let front = get_or-take (row_count c.self.inside.milp.now + 1) c.self.inside.lines.rows c.args.row [] in_front in
-    let basic = ap (λ (bs : List ℕ). get_or bs c.args.row 0) c.as_slice-basis.ensures.value in
-    let line : c.row.result.now ≡ get_or (state g.W.Whole.meaning c.self.inside.milp.now c.self.inside.low.items c.self.inside.high.items c.self.inside.has_high.items c.self.inside.lines.rows c.self.inside.basis.items c.self.inside.at_high.items).lines c.args.row [] = c.row.ensures ∙ sym front in
-    let e = (eligible_of_enters g.W.Whole.meaning (state g.W.Whole.meaning c.self.inside.milp.now c.self.inside.low.items c.self.inside.high.items c.self.inside.has_high.items c.self.inside.lines.rows c.self.inside.basis.items c.self.inside.at_high.items) c.self.invariant.reached c.args.row i_row c.args.broken c.in-Err.column (carry (λ (at : ℕ) (ts : List (Term g.row.W.Denot)) (lo hi : List g.row.W.Denot) (hh ah : List Bool). MayEnter g.W.Whole.meaning ts at lo hi hh ah c.args.broken c.in-Err.column) basic line c.deref.ensures.value c.deref-2.ensures.value c.deref-3.ensures.value c.deref-4.ensures.value c.in-Err.ensures.wide.enters)) in
-    let l = e.column.1 in
-    let m = c.self.invariant.reached.shape.low in
-    let k = c.self.invariant.reached.shape.few in
-    omega arith
-
-pub overflow_cast-result-in-Err-2 : goal.overflow_cast-result-in-Err-2
-overflow_cast-result-in-Err-2 g c =
-    let i_row : IsRow (tableau_of g.W.Whole.meaning (state g.W.Whole.meaning c.self.inside.milp.now c.self.inside.low.items c.self.inside.high.items c.self.inside.has_high.items c.self.inside.lines.rows c.self.inside.basis.items c.self.inside.at_high.items)) c.args.row = subst (λ (s : State g.row.W.Denot). IsRow (tableau_of g.W.Whole.meaning s) c.args.row) (sym c.self.view_is) c.requires.row in
-    let in_front : c.args.row < row_count c.self.inside.milp.now + 1 = (let l = i_row.1 in omega arith) in
-    let front = get_or-take (row_count c.self.inside.milp.now + 1) c.self.inside.lines.rows c.args.row [] in_front in
-    let basic = ap (λ (bs : List ℕ). get_or bs c.args.row 0) c.as_slice-basis.ensures.value in
-    let line : c.row.result.now ≡ get_or (state g.W.Whole.meaning c.self.inside.milp.now c.self.inside.low.items c.self.inside.high.items c.self.inside.has_high.items c.self.inside.lines.rows c.self.inside.basis.items c.self.inside.at_high.items).lines c.args.row [] = c.row.ensures ∙ sym front in
-    let e = (eligible_of_enters g.W.Whole.meaning (state g.W.Whole.meaning c.self.inside.milp.now c.self.inside.low.items c.self.inside.high.items c.self.inside.has_high.items c.self.inside.lines.rows c.self.inside.basis.items c.self.inside.at_high.items) c.self.invariant.reached c.args.row i_row c.args.broken c.in-Err.other (carry (λ (at : ℕ) (ts : List (Term g.row.W.Denot)) (lo hi : List g.row.W.Denot) (hh ah : List Bool). MayEnter g.W.Whole.meaning ts at lo hi hh ah c.args.broken c.in-Err.other) basic line c.deref.ensures.value c.deref-2.ensures.value c.deref-3.ensures.value c.deref-4.ensures.value c.in-Err.ensures.wide.other)) in
-    let l = e.column.1 in
-    let m = c.self.invariant.reached.shape.low in
-    let k = c.self.invariant.reached.shape.few in
-    omega arith
-
-pub returns-in-Ok-clause-chosen : goal.returns-in-Ok-clause-chosen
-returns-in-Ok-clause-chosen g c =
+pub returns-clause-chosen : goal.returns-clause-chosen
+returns-clause-chosen g c =
     let i_row : IsRow (tableau_of g.W.Whole.meaning (state g.W.Whole.meaning c.self.inside.milp.now c.self.inside.low.items c.self.inside.high.items c.self.inside.has_high.items c.self.inside.lines.rows c.self.inside.basis.items c.self.inside.at_high.items)) c.args.row = subst (λ (s : State g.row.W.Denot). IsRow (tableau_of g.W.Whole.meaning s) c.args.row) (sym c.self.view_is) c.requires.row in
     let in_front : c.args.row < row_count c.self.inside.milp.now + 1 = (let l = i_row.1 in omega arith) in
     let front = get_or-take (row_count c.self.inside.milp.now + 1) c.self.inside.lines.rows c.args.row [] in_front in
@@ -68,52 +40,36 @@ returns-in-Ok-clause-chosen g c =
     let line : c.row.result.now ≡ get_or (state g.W.Whole.meaning c.self.inside.milp.now c.self.inside.low.items c.self.inside.high.items c.self.inside.has_high.items c.self.inside.lines.rows c.self.inside.basis.items c.self.inside.at_high.items).lines c.args.row [] = c.row.ensures ∙ sym front in
     let first : 0 < row_count c.self.inside.milp.now + 1 = omega arith in
     let costs : c.row-2.result.now ≡ get_or (state g.W.Whole.meaning c.self.inside.milp.now c.self.inside.low.items c.self.inside.high.items c.self.inside.has_high.items c.self.inside.lines.rows c.self.inside.basis.items c.self.inside.at_high.items).lines 0 [] = c.row-2.ensures ∙ sym (get_or-take (row_count c.self.inside.milp.now + 1) c.self.inside.lines.rows 0 [] first) in
-    some_weaker _ _ c.in-Ok.column
+    some_weaker _ _ c.entering_column.result
     (λ j h. subst (λ (s : State g.row.W.Denot). IsChosen g.W.Whole.meaning (get_or s.lines c.args.row []) (get_or s.basis c.args.row 0) s.low s.high s.has_high s.at_high (get_or s.lines 0 []) c.args.broken j) c.self.view_is
     (subst (λ (us : List (Term g.row.W.Denot)). IsChosen g.W.Whole.meaning (get_or (state g.W.Whole.meaning c.self.inside.milp.now c.self.inside.low.items c.self.inside.high.items c.self.inside.has_high.items c.self.inside.lines.rows c.self.inside.basis.items c.self.inside.at_high.items).lines c.args.row []) (get_or c.self.inside.basis.items c.args.row 0) c.self.inside.low.items c.self.inside.high.items c.self.inside.has_high.items c.self.inside.at_high.items us c.args.broken j) costs
     (carry (λ (at : ℕ) (ts : List (Term g.row.W.Denot)) (lo hi : List g.row.W.Denot) (hh ah : List Bool). IsChosen g.W.Whole.meaning ts at lo hi hh ah c.row-2.result.now c.args.broken j) basic line c.deref.ensures.value c.deref-2.ensures.value c.deref-3.ensures.value c.deref-4.ensures.value h)))
-    c.in-Ok.ensures.chosen
+    c.entering_column.ensures.chosen
 
-pub returns-in-Ok-clause-few : goal.returns-in-Ok-clause-few
-returns-in-Ok-clause-few g c =
+pub returns-clause-few : goal.returns-clause-few
+returns-clause-few g c =
     let i_row : IsRow (tableau_of g.W.Whole.meaning (state g.W.Whole.meaning c.self.inside.milp.now c.self.inside.low.items c.self.inside.high.items c.self.inside.has_high.items c.self.inside.lines.rows c.self.inside.basis.items c.self.inside.at_high.items)) c.args.row = subst (λ (s : State g.row.W.Denot). IsRow (tableau_of g.W.Whole.meaning s) c.args.row) (sym c.self.view_is) c.requires.row in
     let in_front : c.args.row < row_count c.self.inside.milp.now + 1 = (let l = i_row.1 in omega arith) in
     let front = get_or-take (row_count c.self.inside.milp.now + 1) c.self.inside.lines.rows c.args.row [] in_front in
     let basic = ap (λ (bs : List ℕ). get_or bs c.args.row 0) c.as_slice-basis.ensures.value in
     let line : c.row.result.now ≡ get_or (state g.W.Whole.meaning c.self.inside.milp.now c.self.inside.low.items c.self.inside.high.items c.self.inside.has_high.items c.self.inside.lines.rows c.self.inside.basis.items c.self.inside.at_high.items).lines c.args.row [] = c.row.ensures ∙ sym front in
-    some_weaker _ _ c.in-Ok.column
+    some_weaker _ _ c.entering_column.result
     (λ j h. let e = (eligible_of_enters g.W.Whole.meaning (state g.W.Whole.meaning c.self.inside.milp.now c.self.inside.low.items c.self.inside.high.items c.self.inside.has_high.items c.self.inside.lines.rows c.self.inside.basis.items c.self.inside.at_high.items) c.self.invariant.reached c.args.row i_row c.args.broken j (carry (λ (at : ℕ) (ts : List (Term g.row.W.Denot)) (lo hi : List g.row.W.Denot) (hh ah : List Bool). MayEnter g.W.Whole.meaning ts at lo hi hh ah c.args.broken j) basic line c.deref.ensures.value c.deref-2.ensures.value c.deref-3.ensures.value c.deref-4.ensures.value h.enters)) in
     let l = e.column.1 in
     let m = c.self.invariant.reached.shape.low in
     let k = c.self.invariant.reached.shape.few in
     omega arith)
-    c.in-Ok.ensures.chosen
+    c.entering_column.ensures.chosen
 
-pub returns-in-Ok-clause-none : goal.returns-in-Ok-clause-none
-returns-in-Ok-clause-none g c =
+pub returns-clause-none : goal.returns-clause-none
+returns-clause-none g c =
     let i_row : IsRow (tableau_of g.W.Whole.meaning (state g.W.Whole.meaning c.self.inside.milp.now c.self.inside.low.items c.self.inside.high.items c.self.inside.has_high.items c.self.inside.lines.rows c.self.inside.basis.items c.self.inside.at_high.items)) c.args.row = subst (λ (s : State g.row.W.Denot). IsRow (tableau_of g.W.Whole.meaning s) c.args.row) (sym c.self.view_is) c.requires.row in
     let in_front : c.args.row < row_count c.self.inside.milp.now + 1 = (let l = i_row.1 in omega arith) in
     let front = get_or-take (row_count c.self.inside.milp.now + 1) c.self.inside.lines.rows c.args.row [] in_front in
     let basic = ap (λ (bs : List ℕ). get_or bs c.args.row 0) c.as_slice-basis.ensures.value in
     let line : c.row.result.now ≡ get_or (state g.W.Whole.meaning c.self.inside.milp.now c.self.inside.low.items c.self.inside.high.items c.self.inside.has_high.items c.self.inside.lines.rows c.self.inside.basis.items c.self.inside.at_high.items).lines c.args.row [] = c.row.ensures ∙ sym front in
-    none_weaker _ _ c.in-Ok.column
+    none_weaker _ _ c.entering_column.result
     (λ h. subst (λ (s : State g.row.W.Denot). IsEmptyRow (tableau_of g.W.Whole.meaning s) c.args.row c.args.broken) c.self.view_is
     (empty_of_none g.W.Whole.meaning (state g.W.Whole.meaning c.self.inside.milp.now c.self.inside.low.items c.self.inside.high.items c.self.inside.has_high.items c.self.inside.lines.rows c.self.inside.basis.items c.self.inside.at_high.items) c.self.invariant.reached c.args.row i_row c.args.broken (subst (λ (s : State g.row.W.Denot). IsOutside (tableau_of g.W.Whole.meaning s) c.args.row c.args.broken) (sym c.self.view_is) c.requires.outside)
     (λ j e. h j (carry (λ (at : ℕ) (ts : List (Term g.row.W.Denot)) (lo hi : List g.row.W.Denot) (hh ah : List Bool). MayEnter g.W.Whole.meaning ts at lo hi hh ah c.args.broken j) (sym basic) (sym line) (sym c.deref.ensures.value) (sym c.deref-2.ensures.value) (sym c.deref-3.ensures.value) (sym c.deref-4.ensures.value) e))))
-    c.in-Ok.ensures.none
-
-pub returns-in-Err-clause-wide : goal.returns-in-Err-clause-wide
-returns-in-Err-clause-wide g c =
-    let i_row : IsRow (tableau_of g.W.Whole.meaning (state g.W.Whole.meaning c.self.inside.milp.now c.self.inside.low.items c.self.inside.high.items c.self.inside.has_high.items c.self.inside.lines.rows c.self.inside.basis.items c.self.inside.at_high.items)) c.args.row = subst (λ (s : State g.row.W.Denot). IsRow (tableau_of g.W.Whole.meaning s) c.args.row) (sym c.self.view_is) c.requires.row in
-    let in_front : c.args.row < row_count c.self.inside.milp.now + 1 = (let l = i_row.1 in omega arith) in
-    let front = get_or-take (row_count c.self.inside.milp.now + 1) c.self.inside.lines.rows c.args.row [] in_front in
-    let basic = ap (λ (bs : List ℕ). get_or bs c.args.row 0) c.as_slice-basis.ensures.value in
-    let line : c.row.result.now ≡ get_or (state g.W.Whole.meaning c.self.inside.milp.now c.self.inside.low.items c.self.inside.high.items c.self.inside.has_high.items c.self.inside.lines.rows c.self.inside.basis.items c.self.inside.at_high.items).lines c.args.row [] = c.row.ensures ∙ sym front in
-    let first : 0 < row_count c.self.inside.milp.now + 1 = omega arith in
-    let costs : c.row-2.result.now ≡ get_or (state g.W.Whole.meaning c.self.inside.milp.now c.self.inside.low.items c.self.inside.high.items c.self.inside.has_high.items c.self.inside.lines.rows c.self.inside.basis.items c.self.inside.at_high.items).lines 0 [] = c.row-2.ensures ∙ sym (get_or-take (row_count c.self.inside.milp.now + 1) c.self.inside.lines.rows 0 [] first) in
-    let law = g.met.W.Whole.below_wide in
-    subst (λ (s : State g.row.W.Denot). IsOutOfRange g.W.Whole.greatest (tableau_of g.W.Whole.meaning s) (Ratio c.args.row c.in-Err.column c.in-Err.other)) c.self.view_is
-    (out_weaker g.W.Whole.greatest (2 ^ 127 - 1) (tableau_of g.W.Whole.meaning (state g.W.Whole.meaning c.self.inside.milp.now c.self.inside.low.items c.self.inside.high.items c.self.inside.has_high.items c.self.inside.lines.rows c.self.inside.basis.items c.self.inside.at_high.items)) (Ratio c.args.row c.in-Err.column c.in-Err.other) (omega (arith, law))
-    (wide_ratio g.W.Whole.meaning (state g.W.Whole.meaning c.self.inside.milp.now c.self.inside.low.items c.self.inside.high.items c.self.inside.has_high.items c.self.inside.lines.rows c.self.inside.basis.items c.self.inside.at_high.items) c.self.invariant.reached c.args.row i_row c.args.broken (2 ^ 127 - 1) c.in-Err.column c.in-Err.other (subst (λ (s : State g.row.W.Denot). IsOutside (tableau_of g.W.Whole.meaning s) c.args.row c.args.broken) (sym c.self.view_is) c.requires.outside)
-    (subst (λ (us : List (Term g.row.W.Denot)). IsWideRatio g.W.Whole.meaning (get_or (state g.W.Whole.meaning c.self.inside.milp.now c.self.inside.low.items c.self.inside.high.items c.self.inside.has_high.items c.self.inside.lines.rows c.self.inside.basis.items c.self.inside.at_high.items).lines c.args.row []) (get_or c.self.inside.basis.items c.args.row 0) c.self.inside.low.items c.self.inside.high.items c.self.inside.has_high.items c.self.inside.at_high.items (2 ^ 127 - 1) us c.args.broken c.in-Err.column c.in-Err.other) costs
-    (carry (λ (at : ℕ) (ts : List (Term g.row.W.Denot)) (lo hi : List g.row.W.Denot) (hh ah : List Bool). IsWideRatio g.W.Whole.meaning ts at lo hi hh ah (2 ^ 127 - 1) c.row-2.result.now c.args.broken c.in-Err.column c.in-Err.other) basic line c.deref.ensures.value c.deref-2.ensures.value c.deref-3.ensures.value c.deref-4.ensures.value c.in-Err.ensures.wide))))
+    c.entering_column.ensures.none

@@ -1,0 +1,2 @@
+pub mod NaturalsLemmas
+pub mod SignsLemmas
