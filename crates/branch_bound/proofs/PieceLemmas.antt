@@ -1,6 +1,6 @@
 -- What looking for plans in boxes of single pieces leaves as it was.
-use Rattle.std.proofs.Common.{◌≡◌, ℕ, ◌+◌, ◌<◌, Option, Some, None, refl, sym, subst, arith}
-use Rattle.std.specs.Prelude.{ℤ, pos, ◌≤ℤ◌, ◌*ℤ◌}
+use Rattle.std.proofs.Common.{◌≡◌, Option, Some, None, refl, sym, subst, arith}
+use Rattle.std.specs.Prelude.{Result, Ok, Err, OnOk}
 use Rattle.std.proofs.lemmas.Int.{ints}
 use Rattle.algebra.specs.Scale.{IsScale}
 use Rattle.numbers.specs.Fractions.{Fraction}
@@ -12,14 +12,12 @@ use Rattle.plan_rules.specs.Fits.{Fits}
 use Rattle.plan_rules.specs.Rules.{IsAdmissible, IsLimited, Keeps, place_count}
 use Rattle.milp_builder.specs.Boxes.{root_box}
 use Rattle.cert_tree.specs.Soundness.{HasPositiveDen}
-use Rattle.branch_bound.specs.inside.Better.{IsBetter, IsNoDearer}
+use Rattle.branch_bound.specs.inside.Better.{IsNoDearer}
 use Rattle.branch_bound.specs.inside.Grown.{Grown, grown_of, IsGoodNode, keys_of}
 use Rattle.branch_bound.specs.inside.Pieces.{IsImproved}
-use Rattle.branch_bound.specs.inside.Searches.{best_cost, IsBest, IsSearch, IsSolvedBox}
-use Rattle.branch_bound.specs.inside.Solved.{Solved}
+use Rattle.branch_bound.specs.inside.Searches.{best_cost, IsBest, IsSearch}
 use Rattle.branch_bound.specs.declared.best.Best.{Best}
 use Rattle.branch_bound.specs.declared.growing.Search.{Search}
-use Rattle.branch_bound.specs.declared.work.Work.{Work}
 use Rattle.branch_bound.proofs.AskingLemmas.{well_formed_of}
 use Rattle.branch_bound.proofs.BetterLemmas.{better_along, good_along}
 use Rattle.branch_bound.proofs.PlanWidths.{admissible_fits}
@@ -60,3 +58,8 @@ search_improved road before after h k e = record {
   good = subst (λ (g : Grown). IsGoodNode road (best_cost after.best) g (root_box road)) (sym e) (good_along road (best_cost after.best) (best_cost before.best) (grown_of before.work) (root_box road) k.better h.good);
   ordered = subst (λ (g : Grown). IsOrderedTree (keys_of g)) (sym e) h.ordered;
 }
+
+pub searched_on : {A E : Type 0} (road : Road) (before : Search) (best : Option Best) (result : Result A E) → IsSearch road before → OnOk result (IsImproved road before.best best)
+    → OnOk result (IsSearch road (record { work = before.work; best = best }))
+searched_on road before best (Ok done) h k = search_improved road before (record { work = before.work; best = best }) h k refl
+searched_on road before best (Err error) h k = k

@@ -171,6 +171,7 @@ fn grow_on(alloc: Global, road: &Road, search: &mut Search) -> Result<usize, All
 }
 
 /// Looks for plans near the optimum of the leaf that is split next, where the number of nodes says so.
+#[tactic(auto, using(crate::proofs::SearchLemmas::search_keys, crate::proofs::SearchLemmas::search_cost))]
 fn look_for_plans(
     alloc: Global,
     road: &Road,

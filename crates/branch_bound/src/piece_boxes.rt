@@ -1,12 +1,11 @@
 // Plans from boxes of single pieces: near an optimum that asks for a split, each section is held to the piece of its slabs in which the
 // optimum's offset lies, and each block to one opening. Each optimum of such a box has exact volumes, so that it is a plan. Nothing is
 // claimed of where plans are looked for: what comes back is what solving a box gives.
-ghost use Rattle.std.specs.Prelude.{None, OnOk, IfOk, pos, ◌≤◌, ◌≤ℤ◌};
+ghost use Rattle.std.specs.Prelude.{◌≡◌, None, OnOk, IfOk};
 ghost use Rattle.algebra.specs.Scale.{IsScale};
 ghost use Rattle.road_types.specs.Faults.{road_fault};
 ghost use Rattle.road_types.specs.Numbered.{IsNumber};
 ghost use Rattle.road_types.specs.Road.{section_count};
-ghost use Rattle.road_types.specs.declared.section.Section.{Section};
 ghost use Rattle.volume_lines.specs.SlabTables.{HasSlabTables};
 ghost use Rattle.plan_rules.specs.Rules.{IsAdmissible};
 ghost use Rattle.milp_builder.specs.Boxes.{IsBoxOf};
@@ -42,6 +41,7 @@ struct Aim {
 }
 
 /// Looks for plans near the optimum of a leaf that waits. One that is cheaper is the best one then.
+#[tactic(auto, using(crate::proofs::PieceLemmas::improved_same))]
 pub(crate) fn look_near(
     alloc: Global,
     road: &Road,
@@ -62,6 +62,7 @@ pub(crate) fn look_near(
 }
 
 /// Tries the pieces of an aim, and then of neighbours, while the cost falls.
+#[tactic(auto, using(crate::proofs::PieceLemmas::improved_same))]
 fn try_pieces(
     alloc: Global,
     road: &Road,
@@ -144,13 +145,13 @@ fn aim_at(alloc: Global, road: &Road, optimum: &Optimum) -> Result<Aim, AllocErr
 fn opening_near(road: &Road, rough: Rough<'_>, block: usize) -> usize
     requires accepted { road_fault road.now ≡ None }
 {
-    for stage in 2..road.stages + 1 {
+    for stage in 2..road.stages.saturating_add(1) {
         let opened = number_of(road, rough, Column::Opened { block, stage });
         if opened.saturating_mul(2) >= rough.unit {
             return stage;
         }
     }
-    road.stages + 1
+    road.stages.saturating_add(1)
 }
 
 /// A number over a denominator, in parts, rounded down; 0 where the denominator is below 1.
@@ -164,6 +165,7 @@ fn in_parts(x: i128, den: i128) -> i128 {
 
 /// The aim at the openings and offsets of a plan, each offset at the end of its piece moved behind it; none where no offset is. The
 /// piece is that of the aim before.
+#[tactic(auto, using(crate::proofs::FreeLemmas::tables_of_section, crate::proofs::AskingLemmas::next_number, crate::proofs::PieceLemmas::held_fits, crate::proofs::PieceLemmas::held_limited))]
 fn aim_behind(alloc: Global, road: &Road, aim: &Aim, plan: &Plan) -> Result<Option<Aim>, AllocError>
     requires accepted { road_fault road.now ≡ None }
     requires admissible { IsAdmissible road.now plan.now }
@@ -173,10 +175,11 @@ fn aim_behind(alloc: Global, road: &Road, aim: &Aim, plan: &Plan) -> Result<Opti
     let mut offsets = Vec::new(alloc);
     for before in 0..road.sections.len() {
         let offset = in_parts(offset_of(road, plan, before + 1), plan.den);
-        let next = behind(
-            road.section(before + 1),
+        let next = behind_at(
+            road,
             number_at(aim.offsets.as_slice(), before),
             offset,
+            before + 1,
         );
         is_moved = is_moved || next != offset;
         offsets.push(next)?;
@@ -189,6 +192,14 @@ fn aim_behind(alloc: Global, road: &Road, aim: &Aim, plan: &Plan) -> Result<Opti
         opens.push(opening_at(plan, before + 1))?;
     }
     Ok(Some(Aim { opens, offsets }))
+}
+
+/// An offset of a section, or one in the next piece.
+fn behind_at(road: &Road, aim: i128, offset: i128, section: usize) -> i128
+    requires accepted { road_fault road.now ≡ None }
+    requires section { IsNumber section (section_count road.now) }
+{
+    behind(road.section(section), aim, offset)
 }
 
 /// An offset, or one in the next piece, where it is a breakpoint at which the aim's piece ends.
@@ -244,6 +255,7 @@ fn piece_box(alloc: Global, road: &Road, aim: &Aim) -> Result<BoxRange, AllocErr
 }
 
 /// Holds each block to an opening and each section to a piece.
+#[tactic(auto, using(crate::proofs::AskingLemmas::next_number))]
 fn hold_all(alloc: Global, road: &Road, aim: &Aim, range: &mut BoxRange) -> Result<(), AllocError>
     requires accepted { road_fault road.now ≡ None }
     requires fits { IsBoxOf road.now range.old }
@@ -300,6 +312,7 @@ fn hold_section(
 }
 
 /// A breakpoint strictly inside the range of a section.
+#[tactic(auto, using(crate::proofs::FreeLemmas::tables_of_section, crate::proofs::FreeLemmas::range_number))]
 fn breakpoint_in(road: &Road, range: &BoxRange, section: usize) -> Option<i64>
     requires accepted { road_fault road.now ≡ None }
     requires fits { IsBoxOf road.now range.now }
