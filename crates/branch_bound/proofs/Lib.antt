@@ -28,3 +28,4 @@ pub mod FreeLemmas
 pub mod EndLemmas
 pub mod SpelledLaw
 pub mod TextLengths
+pub mod PieceLemmas

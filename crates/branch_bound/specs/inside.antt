@@ -10,3 +10,4 @@ pub mod Solving
 pub mod Least
 pub mod Depths
 pub mod Asking
+pub mod Pieces

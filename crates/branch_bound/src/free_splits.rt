@@ -158,7 +158,7 @@ fn moved_volume(road: &Road, rough: Rough<'_>, section: usize) -> i128
 }
 
 /// The rough number of a column, 0 where there is none.
-fn number_of(road: &Road, rough: Rough<'_>, kind: Column) -> i128
+pub(crate) fn number_of(road: &Road, rough: Rough<'_>, kind: Column) -> i128
     requires accepted { road_fault road.now ≡ None }
 {
     match column_of(road, kind) {

@@ -10,6 +10,7 @@ ghost use Rattle.branch_bound.specs.inside.Grown.{grown_of, keys_of, node_total,
 ghost use Rattle.branch_bound.specs.inside.Searches.{best_cost, IsBest, IsSolvedBox, AreSolved, IsSearch, IsFinishedSearch, IsNext, IsNextOrNone, IsPartsOf, DoReach};
 
 use crate::best::Best;
+use crate::piece_boxes::look_near;
 use crate::solving::solve_box;
 use crate::walks::{part_leaf, push_keys, waiting_at};
 use crate::work::Work;
@@ -159,6 +160,7 @@ fn grow_on(alloc: Global, road: &Road, search: &mut Search) -> Result<usize, All
     let mut count = 1;
     let most = node_budget(road);
     while count + 2 <= most {
+        look_for_plans(alloc, road, search, count)?;
         let Some(at) = next_leaf(alloc, search)? else {
             return Ok(count);
         };
@@ -166,6 +168,34 @@ fn grow_on(alloc: Global, road: &Road, search: &mut Search) -> Result<usize, All
         count += 2;
     }
     Ok(count)
+}
+
+/// Looks for plans near the optimum of the leaf that is split next, where the number of nodes says so.
+#[tactic(auto, using(crate::proofs::SearchLemmas::search_keys, crate::proofs::SearchLemmas::search_cost))]
+fn look_for_plans(
+    alloc: Global,
+    road: &Road,
+    search: &mut Search,
+    count: usize,
+) -> Result<(), AllocError>
+    requires accepted { road_fault road.now ≡ None }
+    requires search { IsSearch road.now search.old }
+    requires few { node_total (grown_of search.old.work) ≤ 4999 }
+    ensures search { OnOk result (IsSearch road.now search.new) }
+    ensures work { OnOk result (grown_of search.new.work ≡ grown_of search.old.work) }
+{
+    if !is_time_for_plans(count) {
+        return Ok(());
+    }
+    match next_leaf(alloc, search)? {
+        Some(at) => look_near(alloc, road, waiting_at(&search.work, at), &mut search.best),
+        None => Ok(()),
+    }
+}
+
+/// Whether plans are looked for at a number of nodes: from the root on to 7 nodes, and at every 32nd.
+fn is_time_for_plans(count: usize) -> bool {
+    count <= 7 || count % 32 == 1
 }
 
 /// The greatest number of nodes.

@@ -8,6 +8,7 @@ mod finding;
 mod free_splits;
 mod growing;
 mod notes;
+mod piece_boxes;
 mod proving;
 mod scores;
 mod settling;
