@@ -1,9 +1,9 @@
 -- The command of a list of words, by its first word and the names behind it.
-use Rattle.std.specs.Prelude.{ℕ, ◌≢◌, ◌-◌, Option, Some, None, List, [], ◌∷◌, length, map, take, drop}
+use Rattle.std.specs.Prelude.{ℕ, ◌≢◌, ◌-◌, Some, None, List, [], ◌∷◌, length, map, take, drop}
 use Rattle.std.proofs.Common.{◌≡◌, get_or, refl, ap, arith}
 use Rattle.std.proofs.lemmas.List.{take_all}
 use Rattle.text_parts.specs.Decimal.{whole_of}
-use Rattle.roadopt_program.specs.CommandWords.{Verb, Form, Carry, two_files, a_number, to_new, forms, form_in, over_files, trial_of, command_by, command_of}
+use Rattle.roadopt_program.specs.CommandWords.{Verb, Carry, two_files, a_number, to_new, forms, form_in, over_files, trial_of, command_by, command_of}
 
 pub two_of : {A : Type 0} (f : A → List ℕ) (verb : Verb) (names : List A) (x y : A) (road other : List ℕ) → length names ≡ 2
     → x ≡ get_or names 0 x → y ≡ get_or names 1 y → road ≡ f x → other ≡ f y

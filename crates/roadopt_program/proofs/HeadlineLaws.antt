@@ -53,7 +53,7 @@ use Rattle.roadopt_program.specs.Ends.{End, Output, after_fault, files_with, sai
 use Rattle.roadopt_program.specs.CommandWords.{Check, Replay, Solve, Carry, Command, on_road, trial, command_of}
 use Rattle.roadopt_program.specs.Headline.{HasCarried, KeepsCarry, IsRoadOf, IsOpenNote, ShowsOpenLeaf, ShowsWhy, SumsTo, IsSolved, HoldsCert, PutsOut, HasSolved, KeepsSolve, HasTried, KeepsTrial}
 use Rattle.roadopt_program.specs.Inputs.{road_limit, cert_limit, IsGiven, IsGivenIfNamed, table_named}
-use Rattle.roadopt_program.specs.Printed.{valid_line, carried_line, cert_refused_line, trial_line}
+use Rattle.roadopt_program.specs.Printed.{valid_line, cert_refused_line, trial_line}
 use Rattle.roadopt_program.specs.Runs.{HandsOut, IsAnswered, IsGivenUp, AnswersSolve, AnswersCarry, AnswersTrial}
 use Rattle.roadopt_program.specs.Solving.{HasStatus, SolvesBy, Solves}
 use Rattle.roadopt_program.specs.Carrying.{CarriesBy, CarriesBytes, Carries}
