@@ -52,6 +52,7 @@ fn answer_of(
         "point" => plans::point_text(rt, road, range, rest),
         "plan" => plans::plan_text(alloc, road, range, rest),
         "value" => multipliers::value_text(alloc, road, range, rest),
+        "ascend" => multipliers::ascend_text(alloc, road, range, rest),
         "builds" => repeats::builds_text(alloc, road, range, rest),
         "values" => repeats::values_text(alloc, road, range, rest),
         _ => String::from_str(alloc, "no such calls"),

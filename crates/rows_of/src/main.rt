@@ -6,7 +6,8 @@
 //! - `counts`: the first line of these; `ranges`: the box's ranges; `families`: how many rows are for heights and volumes, and
 //!   how many for hauls;
 //! - `point FILE`: the point of the plan in a file, and what both cost; `plan 1 500 ..`: the plan of a denominator and a point;
-//! - `value 2 450 ..`: the value of a scale and of one multiplier for each row;
+//! - `value 2 450 ..`: the value of a scale and of one multiplier for each row; `ascend 1 2 450 ..`: the scale, the value and the
+//!   multipliers that `ascend` leaves of them in one round;
 //! - `builds 100`: makes the program 100 times; `values 100`: forms its value with all multipliers 100 times.
 //!
 //! A line `narrow 3 2199023255552 ..` prints what `narrow` leaves of a scale and multipliers.
