@@ -72,7 +72,7 @@ pub(crate) fn solve_box(
 
 /// How the simplex ends on a program.
 #[tactic(auto, using(crate::proofs::SolvingLemmas::end_of_either))]
-fn end_of(alloc: Global, road: &Road, milp: &Milp) -> Result<LpEnd, AllocError>
+pub(crate) fn end_of(alloc: Global, road: &Road, milp: &Milp) -> Result<LpEnd, AllocError>
     requires accepted { road_fault road.now ≡ None }
     ensures end { IfOk result (λ end. IsEnd (2 ^ 127 - 1) milp.now (exchange_budget road.now) end) }
     ensures numbers { IfOk result (λ end. HasNumbersWithin (2 ^ 127 - 1) end) }
@@ -480,7 +480,7 @@ fn whole_leaf(optimum: Optimum, proved: Proved, found: Best, best: &mut Option<B
 
 /// The cheaper of two plans, the old one where they cost as much.
 #[tactic(auto, using(crate::proofs::WholeLemmas::keeps_old, crate::proofs::WholeLemmas::takes_found, crate::proofs::WholeLemmas::takes_first))]
-fn cheaper(found: Best, old: Option<Best>) -> Best
+pub(crate) fn cheaper(found: Best, old: Option<Best>) -> Best
     requires found { IsKey (found.cost.num, found.cost.den) }
     requires old { IsCostKey (best_cost old) }
     ensures { IsCheaper found old result }
