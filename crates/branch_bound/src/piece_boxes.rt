@@ -59,6 +59,30 @@ pub(crate) fn look_near(
     }
 }
 
+/// Looks for a plan at an optimum that is one, but over a denominator past those of plans. Where no more than two nodes are allowed, none
+/// is looked for.
+#[tactic(auto, using(crate::proofs::PieceLemmas::improved_same))]
+pub(crate) fn look_at(
+    alloc: Global,
+    road: &Road,
+    optimum: &Optimum,
+    best: &mut Option<Best>,
+) -> Result<(), AllocError>
+    requires accepted { road_fault road.now ≡ None }
+    requires best { IsBest road.now best.old }
+    ensures { OnOk result (IsImproved road.now best.old best.new) }
+{
+    if road.nodes <= 2 {
+        return Ok(());
+    }
+    let aim = aim_at(alloc, road, optimum)?;
+    let point = Rough {
+        unit: optimum.den,
+        numbers: optimum.point.as_slice(),
+    };
+    offer_near(alloc, road, point, aim.opens.as_slice(), best)
+}
+
 /// Tries the pieces of an aim, and then of neighbours, while the cost falls.
 #[tactic(auto, using(crate::proofs::PieceLemmas::improved_same))]
 fn try_pieces(

@@ -1,6 +1,9 @@
 // Plans put together from a profile and a flow. Nothing is claimed of how they come about: each is judged by all rules before it is held.
-ghost use Rattle.std.specs.Prelude.{◌≡◌, None, OnOk};
+ghost use Rattle.std.specs.Prelude.{◌≡◌, None, OnOk, IsTrue};
+ghost use Rattle.algebra.specs.Scale.{IsScale};
 ghost use Rattle.road_types.specs.Faults.{road_fault};
+ghost use Rattle.plan_rules.specs.Rules.{IsAdmissible};
+ghost use Rattle.best_first.specs.Keys.{IsKey};
 ghost use Rattle.branch_bound.specs.inside.Searches.{IsBest};
 ghost use Rattle.branch_bound.specs.inside.Pieces.{IsImproved};
 
@@ -8,8 +11,8 @@ use crate::best::Best;
 use crate::flat_roads::flat_road;
 use crate::free_splits::{Rough, number_of};
 use crate::piece_boxes::{Aim, PARTS, piece_box};
-use crate::solving::{cheaper, end_of};
-use crate::splines::spline_near;
+use crate::solving::{cheaper, end_of, priced};
+use crate::splines::{height_at, spline_near, station_at};
 use algebra::GREATEST_SCALE;
 use milp_builder::build;
 use numbers::Frac;
@@ -23,6 +26,9 @@ const FINEST: i128 = 1_048_576;
 
 /// The number of grids, each a quarter as fine as the one before.
 const GRIDS: usize = 9;
+
+/// The greatest magnitude of a bound's value.
+const GREATEST_VALUE: u128 = 77_371_252_455_336_267_181_195_264;
 
 /// Offers a plan at a point of a box of single pieces: the point's own where its denominator is that of a plan, and else one on a grid.
 pub(crate) fn offer_near(
@@ -172,13 +178,15 @@ fn volumes_of(
 
 /// The height of pieces at a station: that of the first piece that ends there or behind.
 fn height_on(knots: &[i64], pieces: &[Piece], station: i64) -> i128 {
+    let mut from = station_at(knots, 0);
     let mut place = 1usize;
     for piece in pieces {
-        if place < knots.len() && station <= knots[place] {
-            let along = i128::from(station).saturating_sub(i128::from(knots[place - 1]));
-            let bent = piece.c.saturating_mul(along).saturating_add(piece.b);
-            return bent.saturating_mul(along).saturating_add(piece.a);
+        let to = station_at(knots, place);
+        if station <= to {
+            let along = i128::from(station).saturating_sub(i128::from(from));
+            return height_at(piece.a, piece.b, piece.c, along);
         }
+        from = to;
         place = place.saturating_add(1);
     }
     0
@@ -328,19 +336,53 @@ fn openings(alloc: Global, stages: &[usize]) -> Result<Vec<u8>, AllocError> {
 }
 
 /// Holds a plan where it keeps all rules and is cheaper than the best one.
+#[tactic(auto, using(crate::proofs::PieceLemmas::improved_same))]
 fn offer(road: &Road, plan: Plan, best: &mut Option<Best>)
     requires accepted { road_fault road.now ≡ None }
     requires best { IsBest road.now best.old }
     ensures { IsImproved road.now best.old best.new }
 {
+    if is_admissible(road, &plan) {
+        hold(road, plan, best);
+    } else {
+        drop(plan);
+    }
+}
+
+/// Whether a plan fits the road and keeps all rules.
+fn is_admissible(road: &Road, plan: &Plan) -> bool
+    requires accepted { road_fault road.now ≡ None }
+    ensures { IsTrue result → IsAdmissible road.now plan.now × IsScale plan.now.den }
+{
     if !plan.fits(road) {
-        return;
+        return false;
     }
-    match judge(road, &plan) {
-        Verdict::Admissible { cost } => match Frac::new(cost, plan.den) {
-            Some(cost) => *best = Some(cheaper(Best { plan, cost }, best.take())),
-            None => {}
-        },
-        Verdict::Broken { .. } => {}
+    match judge(road, plan) {
+        Verdict::Admissible { .. } => true,
+        Verdict::Broken { .. } => false,
     }
+}
+
+/// Holds an admissible plan where it is cheaper than the best one.
+#[tactic(auto, using(crate::proofs::PieceLemmas::improved_same, crate::proofs::PieceLemmas::offered, crate::proofs::SearchLemmas::cost_key))]
+fn hold(road: &Road, plan: Plan, best: &mut Option<Best>)
+    requires accepted { road_fault road.now ≡ None }
+    requires admissible { IsAdmissible road.now plan }
+    requires den { IsScale plan.den }
+    requires best { IsBest road.now best.old }
+    ensures { IsImproved road.now best.old best.new }
+{
+    let found = priced(road, plan);
+    if is_key(&found.cost) {
+        *best = Some(cheaper(found, best.take()));
+    } else {
+        drop(found);
+    }
+}
+
+/// Whether a cost's numbers are within the widths of a bound's.
+fn is_key(cost: &Frac) -> bool
+    ensures { IsTrue result → IsKey (cost.now.num, cost.now.den) }
+{
+    cost.num().unsigned_abs() <= GREATEST_VALUE && 1 <= cost.den() && cost.den() <= GREATEST_SCALE
 }

@@ -143,11 +143,11 @@ fn starts_of(
         grid,
     );
     let mut nodes = Vec::new(alloc);
-    for by in 0i128..4 {
-        for more in 0i128..4 {
+    for by in 0..4usize {
+        for more in 0..4usize {
             nodes.push(Node {
-                a: a.saturating_add(by).saturating_sub(1),
-                b: b.saturating_add(more).saturating_sub(1),
+                a: about(a, by),
+                b: about(b, more),
                 c: 0,
                 before: 0,
                 miss: 0,
@@ -209,11 +209,12 @@ fn segment_at(road: &Road, wanted: Rough<'_>, grid: i128, segment: usize) -> Seg
     }
 }
 
-fn station_at(knots: &[i64], place: usize) -> i64 {
+pub(crate) fn station_at(knots: &[i64], place: usize) -> i64 {
     if place < knots.len() { knots[place] } else { 0 }
 }
 
-fn height_at(a: i128, b: i128, c: i128, along: i128) -> i128 {
+/// The height along a piece.
+pub(crate) fn height_at(a: i128, b: i128, c: i128, along: i128) -> i128 {
     c.saturating_mul(along)
         .saturating_add(b)
         .saturating_mul(along)
@@ -242,27 +243,34 @@ fn walk(
         return Ok(());
     }
     let straight = height_at(node.a, node.b, 0, length);
-    let by_height = segment
-        .height
-        .saturating_sub(straight)
-        .div_euclid(length.saturating_mul(length));
-    let by_grade = segment
-        .grade
-        .saturating_sub(node.b)
-        .div_euclid(length.saturating_mul(2));
-    for more in 0i128..4 {
-        let c = segment.curve.saturating_add(more).saturating_sub(1);
+    let by_height = divided(segment.height.saturating_sub(straight), square(length));
+    let by_grade = divided(
+        segment.grade.saturating_sub(node.b),
+        length.saturating_mul(2),
+    );
+    for more in 0..4usize {
+        let c = about(segment.curve, more);
         go_on(road, targets, segment, grid, place, node, c, beam)?;
-        let c = by_height.saturating_add(more).saturating_sub(1);
+        let c = about(by_height, more);
         if !is_near(c, segment.curve) {
             go_on(road, targets, segment, grid, place, node, c, beam)?;
         }
-        let c = by_grade.saturating_add(more).saturating_sub(1);
+        let c = about(by_grade, more);
         if !is_near(c, segment.curve) && !is_near(c, by_height) {
             go_on(road, targets, segment, grid, place, node, c, beam)?;
         }
     }
     Ok(())
+}
+
+/// A quotient, rounded down; 0 where the divisor is below 1.
+fn divided(x: i128, by: i128) -> i128 {
+    if by < 1 { 0 } else { x.div_euclid(by) }
+}
+
+/// The number that is so much more than one less than another.
+fn about(x: i128, more: usize) -> i128 {
+    x.saturating_add(more as i128).saturating_sub(1)
 }
 
 /// Whether a curve is among those that are tried about another one.
