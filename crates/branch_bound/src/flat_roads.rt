@@ -4,7 +4,7 @@ use road_types::{Access, Block, Fixed, Hop, Listed, Pit, Road, Section, Slab, Te
 use std::alloc::{AllocError, Global};
 
 /// The area of the slab that holds most of a volume, in m².
-const AREA: i128 = 1_000_000;
+const AREA: i128 = 10_000_000;
 
 /// The greatest cap of a road, in litres.
 const GREATEST_CAP: i128 = 100_000_000_000_000;

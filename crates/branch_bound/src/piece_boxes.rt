@@ -15,6 +15,7 @@ use crate::best::Best;
 use crate::free_splits::{Rough, number_of};
 use crate::settled::offer_near;
 use crate::solving::end_of;
+use crate::splines::in_grid;
 use crate::splitting::inner_breakpoint;
 use crate::work::{Optimum, Reason, Waiting};
 use milp_builder::{BoxRange, Split, build, is_breakpoint, parts, root_box};
@@ -107,6 +108,7 @@ fn try_pieces(
 
 /// Solves the box of an aim, and offers a plan at its optimum. Where that is cheaper and some offset stands at the end of its piece,
 /// gives the aim at the pieces behind these.
+#[tactic(auto, using(crate::proofs::PieceLemmas::improved_same))]
 fn try_piece(
     alloc: Global,
     road: &Road,
@@ -180,7 +182,7 @@ fn aim_at(alloc: Global, road: &Road, optimum: &Optimum) -> Result<Aim, AllocErr
                 section: before + 1,
             },
         );
-        offsets.push(in_parts(offset, optimum.den))?;
+        offsets.push(in_grid(offset, optimum.den, PARTS))?;
     }
     Ok(Aim { opens, offsets })
 }
@@ -198,15 +200,6 @@ fn opening_near(road: &Road, rough: Rough<'_>, block: usize) -> usize
     road.stages.saturating_add(1)
 }
 
-/// A number over a denominator, in parts, rounded down; 0 where the denominator is below 1.
-fn in_parts(x: i128, den: i128) -> i128 {
-    if den < 1 {
-        return 0;
-    }
-    let whole = x.div_euclid(den).saturating_mul(PARTS);
-    whole.saturating_add(x.rem_euclid(den).saturating_mul(PARTS).div_euclid(den))
-}
-
 /// The aim at the offsets of a point, each at the end of its piece moved behind it; none where no offset is. The piece is that of the aim
 /// before, and so are the openings.
 #[tactic(auto, using(crate::proofs::AskingLemmas::next_number))]
@@ -221,7 +214,7 @@ fn aim_behind(
     let mut is_moved = false;
     let mut offsets = Vec::new(alloc);
     for before in 0..road.sections.len() {
-        let offset = in_parts(
+        let offset = in_grid(
             number_of(
                 road,
                 point,
@@ -230,6 +223,7 @@ fn aim_behind(
                 },
             ),
             point.unit,
+            PARTS,
         );
         let next = behind_at(
             road,

@@ -12,7 +12,7 @@ use crate::flat_roads::flat_road;
 use crate::free_splits::{Rough, number_of};
 use crate::piece_boxes::{Aim, PARTS, piece_box};
 use crate::solving::{cheaper, end_of, priced};
-use crate::splines::{height_at, spline_near, station_at};
+use crate::splines::{height_at, in_grid, spline_near, station_at};
 use algebra::GREATEST_SCALE;
 use milp_builder::build;
 use numbers::Frac;
@@ -24,8 +24,8 @@ use std::alloc::{AllocError, Global};
 /// The finest grid on which profiles are settled: parts of a mm, of a mm per step and of a mm per step².
 const FINEST: i128 = 1_048_576;
 
-/// The number of grids, each a quarter as fine as the one before.
-const GRIDS: usize = 9;
+/// The number of grids, each half as fine as the one before.
+const GRIDS: usize = 17;
 
 /// The greatest magnitude of a bound's value.
 const GREATEST_VALUE: u128 = 77_371_252_455_336_267_181_195_264;
@@ -52,6 +52,7 @@ pub(crate) fn offer_near(
 }
 
 /// Offers a plan on the finest grid on which there is one near a point.
+#[tactic(auto, using(crate::proofs::PieceLemmas::improved_same))]
 fn offer_settled(
     alloc: Global,
     road: &Road,
@@ -63,15 +64,29 @@ fn offer_settled(
     requires best { IsBest road.now best.old }
     ensures { OnOk result (IsImproved road.now best.old best.new) }
 {
+    if let Some(plan) = finest(alloc, road, point, opens)? {
+        offer(road, plan, best);
+    }
+    Ok(())
+}
+
+/// A plan on the finest grid on which there is one near a point.
+fn finest(
+    alloc: Global,
+    road: &Road,
+    point: Rough<'_>,
+    opens: &[usize],
+) -> Result<Option<Plan>, AllocError>
+    requires accepted { road_fault road.now ≡ None }
+{
     let mut grid = FINEST;
     for _turn in 0..GRIDS {
         if let Some(plan) = settled(alloc, road, point, opens, grid)? {
-            offer(road, plan, best);
-            return Ok(());
+            return Ok(Some(plan));
         }
-        grid = grid.div_euclid(4);
+        grid = grid.div_euclid(2);
     }
-    Ok(())
+    Ok(None)
 }
 
 /// A plan on a grid near a point, where there is a profile and a flow of it.
@@ -84,10 +99,29 @@ fn settled(
 ) -> Result<Option<Plan>, AllocError>
     requires accepted { road_fault road.now ≡ None }
 {
+    if !is_light(alloc, road, point, grid)? {
+        return Ok(None);
+    }
     match spline_near(alloc, road, point, grid)? {
         Some(pieces) => settled_at(alloc, road, pieces, opens, grid),
         None => Ok(None),
     }
+}
+
+/// Whether the flat road of the volumes at about the offsets of a point is accepted: before a profile is looked for on a grid that is too
+/// fine.
+fn is_light(alloc: Global, road: &Road, point: Rough<'_>, grid: i128) -> Result<bool, AllocError>
+    requires accepted { road_fault road.now ≡ None }
+{
+    let mut volumes = Vec::new(alloc);
+    let mut number = 1usize;
+    for section in road.sections.as_slice() {
+        let offset = number_of(road, point, Column::Offset { section: number });
+        volumes.push(volume_at(section, in_grid(offset, point.unit, grid), grid))?;
+        number = number.saturating_add(1);
+    }
+    let flat = flat_road(alloc, road, volumes.as_slice(), grid)?;
+    Ok(flat.check().is_none())
 }
 
 /// The plan of pieces over a grid, with a cheapest flow.

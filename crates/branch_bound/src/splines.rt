@@ -11,6 +11,9 @@ use std::alloc::{AllocError, Global};
 /// The number of splines that are kept at each knot.
 const WIDTH: usize = 100;
 
+/// The least denominator that is shortened.
+const LONG_UNIT: i128 = 1_267_650_600_228_229_401_496_703_205_376;
+
 /// A section as the splines meet it; but for the station all numbers are in parts of the grid.
 #[derive(Clone, Copy)]
 struct Target {
@@ -82,13 +85,19 @@ pub(crate) fn spline_near(
     pieces_back(alloc, road, nodes.as_slice(), from)
 }
 
-/// A number over the denominator of what is wanted, in parts of the grid, rounded down.
-fn in_grid(x: i128, unit: i128, grid: i128) -> i128 {
-    if unit < 1 {
+/// A number over a denominator, in parts of a grid, rounded down; 0 where the denominator is below 1. Past 2^100 the denominator is
+/// shortened first, so that nothing saturates.
+pub(crate) fn in_grid(x: i128, unit: i128, grid: i128) -> i128 {
+    if unit < 1 || grid < 1 {
         return 0;
     }
     let whole = x.div_euclid(unit).saturating_mul(grid);
-    whole.saturating_add(x.rem_euclid(unit).saturating_mul(grid).div_euclid(unit))
+    let rest = x.rem_euclid(unit);
+    whole.saturating_add(if unit < LONG_UNIT {
+        rest.saturating_mul(grid).div_euclid(unit)
+    } else {
+        divided(rest, unit.div_euclid(grid))
+    })
 }
 
 fn targets_of(

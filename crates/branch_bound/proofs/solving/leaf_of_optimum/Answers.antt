@@ -31,7 +31,7 @@ returns-then-optimum-gt-GREATEST_SCALE c =
     (λ (leaf : Work) (e : grown_of leaf ≡ stopped_leaf c.args.proved (Limit c.args.optimum.trail c.args.optimum.den)).
     denominator_solved c.args.road.now c.args.best.now c.args.range c.args.optimum c.args.proved (record { leaf = leaf; best = c.args.best.now }) c.requires.best c.requires.optimum refl
     own.whole own.exact (omega (arith, ints, past)) (inl e))
-    (simp to_z-of_z at c.past_plans.ensures.leaf) c.past_plans.ensures.best
+    c.past_plans.ensures.leaf c.past_plans.ensures.best
 
 pub plan_found-requires-clause-den : goal.plan_found-requires-clause-den
 plan_found-requires-clause-den c =
