@@ -8,7 +8,7 @@ ghost use Rattle.branch_bound.specs.inside.Searches.{IsBest};
 ghost use Rattle.branch_bound.specs.inside.Pieces.{IsImproved};
 
 use crate::best::Best;
-use crate::flat_roads::flat_road;
+use crate::flat_roads::{flat_road, flow_near};
 use crate::free_splits::{Rough, number_of};
 use crate::piece_boxes::{Aim, PARTS, piece_box};
 use crate::solving::{cheaper, end_of, priced};
@@ -103,7 +103,7 @@ fn settled(
         return Ok(None);
     }
     match spline_near(alloc, road, point, grid)? {
-        Some(pieces) => settled_at(alloc, road, pieces, opens, grid),
+        Some(pieces) => settled_at(alloc, road, point, pieces, opens, grid),
         None => Ok(None),
     }
 }
@@ -120,7 +120,8 @@ fn is_light(alloc: Global, road: &Road, point: Rough<'_>, grid: i128) -> Result<
         volumes.push(volume_at(section, in_grid(offset, point.unit, grid), grid))?;
         number = number.saturating_add(1);
     }
-    let flat = flat_road(alloc, road, volumes.as_slice(), grid)?;
+    let flow = flow_near(road, point, volumes.as_slice(), grid);
+    let flat = flat_road(alloc, flow, volumes.as_slice())?;
     Ok(flat.check().is_none())
 }
 
@@ -128,12 +129,16 @@ fn is_light(alloc: Global, road: &Road, point: Rough<'_>, grid: i128) -> Result<
 fn settled_at(
     alloc: Global,
     road: &Road,
+    point: Rough<'_>,
     pieces: Vec<Piece>,
     opens: &[usize],
     grid: i128,
-) -> Result<Option<Plan>, AllocError> {
+) -> Result<Option<Plan>, AllocError>
+    requires accepted { road_fault road.now ≡ None }
+{
     let volumes = volumes_of(alloc, road, pieces.as_slice(), grid)?;
-    let flat = flat_road(alloc, road, volumes.as_slice(), grid)?;
+    let flow = flow_near(road, point, volumes.as_slice(), grid);
+    let flat = flat_road(alloc, flow, volumes.as_slice())?;
     match flat.check() {
         Some(_) => Ok(None),
         None => flow_on(alloc, &flat, pieces, opens, grid),
@@ -262,7 +267,7 @@ fn pieces_of(alloc: Global, road: &Road, point: Rough<'_>) -> Result<Vec<Piece>,
 
 /// Which amounts of a flow a table has.
 #[derive(Clone, Copy)]
-enum Amounts {
+pub enum Amounts {
     Cut,
     Fill,
     Right,
@@ -337,7 +342,7 @@ fn row_of(
     Ok(row)
 }
 
-fn column(kind: Amounts, number: usize, stage: usize) -> Column {
+pub(crate) fn column(kind: Amounts, number: usize, stage: usize) -> Column {
     match kind {
         Amounts::Cut => Column::Cut {
             section: number,
