@@ -1,26 +1,26 @@
 -- What looking for plans in boxes of single pieces leaves as it was.
-use Rattle.std.proofs.Common.{◌≡◌, Option, Some, None, refl, sym, subst, arith}
-use Rattle.std.specs.Prelude.{Result, Ok, Err, OnOk}
+use Rattle.std.proofs.Common.{◌≡◌, Option, Some, None, refl, sym, subst, arith, ⊎_elim}
+use Rattle.std.specs.Prelude.{Result, Ok, Err, IfOk, OnOk}
 use Rattle.std.proofs.lemmas.Int.{ints}
 use Rattle.algebra.specs.Scale.{IsScale}
-use Rattle.numbers.specs.Fractions.{Fraction}
-use Rattle.road_types.specs.Faults.{road_fault}
+use Rattle.numbers.specs.Fractions.{Fraction, IsLowest, HasValue}
 use Rattle.road_types.specs.declared.road.Road.{Road}
 use Rattle.plan_rules.specs.declared.plan.Plan.{Plan}
-use Rattle.plan_rules.specs.declared.verdict.Rule.TheVariants.{P1}
-use Rattle.plan_rules.specs.Fits.{Fits}
-use Rattle.plan_rules.specs.Rules.{IsAdmissible, IsLimited, Keeps, place_count}
+use Rattle.plan_rules.specs.Rules.{IsAdmissible}
+use Rattle.plan_rules.specs.Costs.{cost_of}
+use Rattle.best_first.specs.Keys.{IsKey}
 use Rattle.milp_builder.specs.Boxes.{root_box}
+use Rattle.milp_builder.specs.declared.boxes.BoxRange.{BoxRange}
 use Rattle.cert_tree.specs.Soundness.{HasPositiveDen}
 use Rattle.branch_bound.specs.inside.Better.{IsNoDearer}
 use Rattle.branch_bound.specs.inside.Grown.{Grown, grown_of, IsGoodNode, keys_of}
 use Rattle.branch_bound.specs.inside.Pieces.{IsImproved}
-use Rattle.branch_bound.specs.inside.Searches.{best_cost, IsBest, IsSearch}
+use Rattle.branch_bound.specs.inside.Searches.{best_cost, IsBest, IsBestPlan, IsSearch, IsSolvedBox}
+use Rattle.branch_bound.specs.inside.Solving.{IsCheaper}
 use Rattle.branch_bound.specs.declared.best.Best.{Best}
 use Rattle.branch_bound.specs.declared.growing.Search.{Search}
-use Rattle.branch_bound.proofs.AskingLemmas.{well_formed_of}
+use Rattle.branch_bound.specs.declared.work.Work.{Work}
 use Rattle.branch_bound.proofs.BetterLemmas.{better_along, good_along}
-use Rattle.branch_bound.proofs.PlanWidths.{admissible_fits}
 use Rattle.best_first.specs.inside.Covers.{IsOrderedTree}
 
 best_den : (road : Road) (best : Option Best) → IsBest road best → HasPositiveDen (best_cost best)
@@ -43,13 +43,21 @@ improved_along road old mid new h k = record {
   better = better_along (best_cost new) (best_cost mid) (best_cost old) k.better h.better;
 }
 
--- a plan that stands as the best one fits the road and keeps within its limits
-pub held_fits : (road : Road) (plan : Plan) → road_fault road ≡ None → IsScale plan.den → IsAdmissible road plan → Fits road plan
-held_fits road plan accepted den h = admissible_fits road plan (well_formed_of road accepted) den h
-
-pub held_limited : (road : Road) (plan : Plan) → IsAdmissible road plan → IsLimited road plan
-unfolding Keeps place_count
-held_limited road plan h = record { each = λ g n. h.keeps P1 0 g n }
+-- an admissible plan at its cost, where it is cheaper than the best one
+pub offered : (road : Road) (plan : Plan) (found : Best) (old : Option Best) (best : Best) → IsBest road old → IsAdmissible road plan → IsScale plan.den → found.plan ≡ plan
+    → HasValue found.cost (cost_of road plan) plan.den → IsLowest found.cost → IsKey (found.cost.num, found.cost.den) → IsCheaper found old best → IsImproved road old (Some best)
+offered road plan found old best h a d e v l k c =
+    let held : IsBestPlan road found = record {
+      plan_at = record {
+        admissible = subst (IsAdmissible road) (sym e) a;
+        cost_is = record { lowest = l; value = subst (λ (q : Plan). HasValue found.cost (cost_of road q) q.den) (sym e) v };
+      };
+      cost_key = k;
+      den_within = subst (λ (q : Plan). IsScale q.den) (sym e) d;
+    } in
+    let now : IsBestPlan road best =
+    ⊎_elim (λ (f : best ≡ found). subst (IsBestPlan road) (sym f) held) (λ (f : Some best ≡ old). subst (IsBest road) (sym f) h) c.one_of in
+    record { best_is = now; better = record { no_dearer = c.not_above_old; new_den = now.cost_key.scale.from_one; old_den = best_den road old h } }
 
 -- a search with a better plan is a search
 pub search_improved : (road : Road) (before after : Search) → IsSearch road before → IsImproved road before.best after.best → grown_of after.work ≡ grown_of before.work → IsSearch road after
@@ -63,3 +71,19 @@ pub searched_on : {A E : Type 0} (road : Road) (before : Search) (best : Option 
     → OnOk result (IsSearch road (record { work = before.work; best = best }))
 searched_on road before best (Ok done) h k = search_improved road before (record { work = before.work; best = best }) h k refl
 searched_on road before best (Err error) h k = k
+
+-- a box is solved all the same where a cheaper plan was found beside it
+pub solved_improved : (road : Road) (old new : Option Best) (range : BoxRange) (leaf : Work) → IsSolvedBox road old range (record { leaf = leaf; best = old }) → IsImproved road old new
+    → IsSolvedBox road old range (record { leaf = leaf; best = new })
+solved_improved road old new range leaf h k = record {
+  best_is = k.best_is;
+  better = k.better;
+  is_leaf = h.is_leaf;
+  good = good_along road (best_cost new) (best_cost old) (grown_of leaf) range k.better h.good;
+}
+
+pub beyond_solved : {E : Type 0} (road : Road) (old new : Option Best) (range : BoxRange) (grown : Grown) (result : Result Work E)
+    → ((leaf : Work) → grown_of leaf ≡ grown → IsSolvedBox road old range (record { leaf = leaf; best = old })) → IfOk result (λ (leaf : Work). grown_of leaf ≡ grown)
+    → OnOk result (IsImproved road old new) → IfOk result (λ (leaf : Work). IsSolvedBox road old range (record { leaf = leaf; best = new }))
+beyond_solved road old new range grown (Ok leaf) f e k = solved_improved road old new range leaf (f leaf e) k
+beyond_solved road old new range grown (Err error) f e k = e

@@ -144,7 +144,7 @@ fn rough_height_at(
 }
 
 /// What a section is filled in all stages, less what it is cut, over the unit.
-fn moved_volume(road: &Road, rough: Rough<'_>, section: usize) -> i128
+pub(crate) fn moved_volume(road: &Road, rough: Rough<'_>, section: usize) -> i128
     requires accepted { road_fault road.now ≡ None }
 {
     let mut volume = 0i128;

@@ -193,9 +193,9 @@ fn look_for_plans(
     }
 }
 
-/// Whether plans are looked for at a number of nodes: from the root on to 7 nodes, and at every 32nd.
+/// Whether plans are looked for at a number of nodes: at the root, at 7 nodes, and at every 64th.
 fn is_time_for_plans(count: usize) -> bool {
-    count <= 7 || count % 32 == 1
+    count == 1 || count == 7 || count % 64 == 1
 }
 
 /// The greatest number of nodes.

@@ -5,14 +5,17 @@
 mod asking;
 mod best;
 mod finding;
+mod flat_roads;
 mod free_splits;
 mod growing;
 mod notes;
 mod piece_boxes;
 mod proving;
 mod scores;
+mod settled;
 mod settling;
 mod solving;
+mod splines;
 mod splitting;
 mod walks;
 mod work;

@@ -2,12 +2,10 @@
 // optimum's offset lies, and each block to one opening. Each optimum of such a box has exact volumes, so that it is a plan. Nothing is
 // claimed of where plans are looked for: what comes back is what solving a box gives.
 ghost use Rattle.std.specs.Prelude.{◌≡◌, None, OnOk, IfOk};
-ghost use Rattle.algebra.specs.Scale.{IsScale};
 ghost use Rattle.road_types.specs.Faults.{road_fault};
 ghost use Rattle.road_types.specs.Numbered.{IsNumber};
 ghost use Rattle.road_types.specs.Road.{section_count};
 ghost use Rattle.volume_lines.specs.SlabTables.{HasSlabTables};
-ghost use Rattle.plan_rules.specs.Rules.{IsAdmissible};
 ghost use Rattle.milp_builder.specs.Boxes.{IsBoxOf};
 ghost use Rattle.branch_bound.specs.inside.Searches.{IsBest};
 ghost use Rattle.branch_bound.specs.inside.Pieces.{IsImproved};
@@ -15,17 +13,18 @@ ghost use Rattle.branch_bound.specs.inside.Pieces.{IsImproved};
 use crate::asking::height_range;
 use crate::best::Best;
 use crate::free_splits::{Rough, number_of};
-use crate::solving::solve_box;
+use crate::settled::offer_near;
+use crate::solving::end_of;
+use crate::splines::in_grid;
 use crate::splitting::inner_breakpoint;
 use crate::work::{Optimum, Reason, Waiting};
-use milp_builder::{BoxRange, Split, is_breakpoint, parts, root_box};
-use plan_rules::entries::opening_at;
-use plan_rules::{Plan, offset_of};
+use milp_builder::{BoxRange, Split, build, is_breakpoint, parts, root_box};
 use road_types::{Column, Road, Section};
+use simplex::LpEnd;
 use std::alloc::{AllocError, Global};
 
 /// The parts of a mm in which an offset is aimed at.
-const PARTS: i128 = 1_048_576;
+pub(crate) const PARTS: i128 = 1_048_576;
 
 /// The greatest number of programs that one leaf's optimum gives rise to.
 const MOST_PROGRAMS: usize = 7;
@@ -35,9 +34,9 @@ const MOST_BREAKPOINTS: usize = 16;
 
 /// Where a plan is looked for: an opening for each block, and an offset for each section in parts of a mm.
 #[derive(Drop)]
-struct Aim {
-    opens: Vec<usize>,
-    offsets: Vec<i128>,
+pub struct Aim {
+    pub opens: Vec<usize>,
+    pub offsets: Vec<i128>,
 }
 
 /// Looks for plans near the optimum of a leaf that waits. One that is cheaper is the best one then.
@@ -59,6 +58,30 @@ pub(crate) fn look_near(
         }
         Reason::Stop { .. } => Ok(()),
     }
+}
+
+/// Looks for a plan at an optimum that is one, but over a denominator past those of plans. Where no more than two nodes are allowed, none
+/// is looked for.
+#[tactic(auto, using(crate::proofs::PieceLemmas::improved_same))]
+pub(crate) fn look_at(
+    alloc: Global,
+    road: &Road,
+    optimum: &Optimum,
+    best: &mut Option<Best>,
+) -> Result<(), AllocError>
+    requires accepted { road_fault road.now ≡ None }
+    requires best { IsBest road.now best.old }
+    ensures { OnOk result (IsImproved road.now best.old best.new) }
+{
+    if road.nodes <= 2 {
+        return Ok(());
+    }
+    let aim = aim_at(alloc, road, optimum)?;
+    let point = Rough {
+        unit: optimum.den,
+        numbers: optimum.point.as_slice(),
+    };
+    offer_near(alloc, road, point, aim.opens.as_slice(), best)
 }
 
 /// Tries the pieces of an aim, and then of neighbours, while the cost falls.
@@ -83,8 +106,9 @@ fn try_pieces(
     Ok(())
 }
 
-/// Solves the box of an aim. Where that gives a cheaper plan some of whose offsets stand at the ends of their pieces, gives the aim at
-/// the pieces behind these.
+/// Solves the box of an aim, and offers a plan at its optimum. Where that is cheaper and some offset stands at the end of its piece,
+/// gives the aim at the pieces behind these.
+#[tactic(auto, using(crate::proofs::PieceLemmas::improved_same))]
 fn try_piece(
     alloc: Global,
     road: &Road,
@@ -95,16 +119,38 @@ fn try_piece(
     requires best { IsBest road.now best.old }
     ensures { OnOk result (IsImproved road.now best.old best.new) }
 {
-    let before = cost_of(best);
     let range = piece_box(alloc, road, aim)?;
-    drop(solve_box(alloc, road, range, best)?);
+    let milp = build(alloc, road, &range)?;
+    match end_of(alloc, road, &milp)? {
+        LpEnd::Best { den, point, .. } => {
+            let point = Rough {
+                unit: den,
+                numbers: point.as_slice(),
+            };
+            offer_at(alloc, road, aim, point, best)
+        }
+        LpEnd::Empty { .. } | LpEnd::Pivots { .. } | LpEnd::Wide { .. } => Ok(None),
+    }
+}
+
+/// Offers a plan at the optimum of an aim's box. Where that is cheaper, gives the next aim, if there is one.
+fn offer_at(
+    alloc: Global,
+    road: &Road,
+    aim: &Aim,
+    point: Rough<'_>,
+    best: &mut Option<Best>,
+) -> Result<Option<Aim>, AllocError>
+    requires accepted { road_fault road.now ≡ None }
+    requires best { IsBest road.now best.old }
+    ensures { OnOk result (IsImproved road.now best.old best.new) }
+{
+    let before = cost_of(best);
+    offer_near(alloc, road, point, aim.opens.as_slice(), best)?;
     if cost_of(best) == before {
         return Ok(None);
     }
-    match best {
-        Some(best) => aim_behind(alloc, road, aim, &best.plan),
-        None => Ok(None),
-    }
+    aim_behind(alloc, road, aim, point)
 }
 
 /// The cost of the best plan.
@@ -136,7 +182,7 @@ fn aim_at(alloc: Global, road: &Road, optimum: &Optimum) -> Result<Aim, AllocErr
                 section: before + 1,
             },
         );
-        offsets.push(in_parts(offset, optimum.den))?;
+        offsets.push(in_grid(offset, optimum.den, PARTS))?;
     }
     Ok(Aim { opens, offsets })
 }
@@ -154,27 +200,31 @@ fn opening_near(road: &Road, rough: Rough<'_>, block: usize) -> usize
     road.stages.saturating_add(1)
 }
 
-/// A number over a denominator, in parts, rounded down; 0 where the denominator is below 1.
-fn in_parts(x: i128, den: i128) -> i128 {
-    if den < 1 {
-        return 0;
-    }
-    let whole = x.div_euclid(den).saturating_mul(PARTS);
-    whole.saturating_add(x.rem_euclid(den).saturating_mul(PARTS).div_euclid(den))
-}
-
-/// The aim at the openings and offsets of a plan, each offset at the end of its piece moved behind it; none where no offset is. The
-/// piece is that of the aim before.
-#[tactic(auto, using(crate::proofs::FreeLemmas::tables_of_section, crate::proofs::AskingLemmas::next_number, crate::proofs::PieceLemmas::held_fits, crate::proofs::PieceLemmas::held_limited))]
-fn aim_behind(alloc: Global, road: &Road, aim: &Aim, plan: &Plan) -> Result<Option<Aim>, AllocError>
+/// The aim at the offsets of a point, each at the end of its piece moved behind it; none where no offset is. The piece is that of the aim
+/// before, and so are the openings.
+#[tactic(auto, using(crate::proofs::AskingLemmas::next_number))]
+fn aim_behind(
+    alloc: Global,
+    road: &Road,
+    aim: &Aim,
+    point: Rough<'_>,
+) -> Result<Option<Aim>, AllocError>
     requires accepted { road_fault road.now ≡ None }
-    requires admissible { IsAdmissible road.now plan.now }
-    requires den { IsScale plan.now.den }
 {
     let mut is_moved = false;
     let mut offsets = Vec::new(alloc);
     for before in 0..road.sections.len() {
-        let offset = in_parts(offset_of(road, plan, before + 1), plan.den);
+        let offset = in_grid(
+            number_of(
+                road,
+                point,
+                Column::Offset {
+                    section: before + 1,
+                },
+            ),
+            point.unit,
+            PARTS,
+        );
         let next = behind_at(
             road,
             number_at(aim.offsets.as_slice(), before),
@@ -187,10 +237,7 @@ fn aim_behind(alloc: Global, road: &Road, aim: &Aim, plan: &Plan) -> Result<Opti
     if !is_moved {
         return Ok(None);
     }
-    let mut opens = Vec::new(alloc);
-    for before in 0..road.blocks.len() {
-        opens.push(opening_at(plan, before + 1))?;
-    }
+    let opens: Vec<usize> = Vec::from_slice(alloc, aim.opens.as_slice())?;
     Ok(Some(Aim { opens, offsets }))
 }
 
@@ -239,7 +286,7 @@ fn number_at(numbers: &[i128], place: usize) -> i128 {
 }
 
 /// The box of single pieces and openings nearest to an aim.
-fn piece_box(alloc: Global, road: &Road, aim: &Aim) -> Result<BoxRange, AllocError>
+pub(crate) fn piece_box(alloc: Global, road: &Road, aim: &Aim) -> Result<BoxRange, AllocError>
     requires accepted { road_fault road.now ≡ None }
     ensures { IfOk result (λ range. IsBoxOf road.now range) }
 {

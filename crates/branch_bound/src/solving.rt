@@ -1,5 +1,5 @@
 // The linear program of a box, and the leaf that its end gives.
-ghost use Rattle.std.specs.Prelude.{◌≡◌, ◌<◌, ◌≤◌, ◌^◌, ◌-◌, ◌≤ℤ◌, None, IfOk, IfSome, pos, unsigned_abs};
+ghost use Rattle.std.specs.Prelude.{◌≡◌, ◌<◌, ◌≤◌, ◌^◌, ◌-◌, ◌≤ℤ◌, None, IfOk, OnOk, IfSome, pos, unsigned_abs};
 ghost use Rattle.std.specs.Int.{int_max};
 ghost use Rattle.std.specs.List.{All};
 ghost use Rattle.algebra.specs.Scale.{IsScale};
@@ -19,6 +19,7 @@ ghost use Rattle.branch_bound.specs.Optima.{exchange_budget};
 ghost use Rattle.branch_bound.specs.inside.Asking.{AsksForNothing};
 ghost use Rattle.branch_bound.specs.inside.Grown.{grown_of, dead_leaf, whole_leaf, waiting_leaf, stopped_leaf, IsCostKey};
 ghost use Rattle.branch_bound.specs.inside.Proving.{IsProvedOn};
+ghost use Rattle.branch_bound.specs.inside.Pieces.{IsImproved};
 ghost use Rattle.branch_bound.specs.inside.Searches.{best_cost, IsBest, IsSolvedBox};
 ghost use Rattle.branch_bound.specs.inside.Solving.{AreProving, IsStopOf, IsStoppedLeaf, IsEmptyLeaf, AreDeadMults, IsOptimumOf, IsWholeLeaf, IsCheaper, IsPricedBest};
 ghost use Rattle.branch_bound.specs.declared.notes.NodeNote.TheVariants.{Limit};
@@ -27,6 +28,7 @@ use crate::asking::asked_split;
 use crate::best::Best;
 use crate::free_splits::{Rough, free_split};
 use crate::notes::NodeNote;
+use crate::piece_boxes::look_at;
 use crate::proving::{greatest_magnitude, narrowed, past_limit, prove, value_on};
 use crate::work::{Optimum, Proved, Reason, Waiting, Work};
 use algebra::GREATEST_SCALE;
@@ -72,7 +74,7 @@ pub(crate) fn solve_box(
 
 /// How the simplex ends on a program.
 #[tactic(auto, using(crate::proofs::SolvingLemmas::end_of_either))]
-fn end_of(alloc: Global, road: &Road, milp: &Milp) -> Result<LpEnd, AllocError>
+pub(crate) fn end_of(alloc: Global, road: &Road, milp: &Milp) -> Result<LpEnd, AllocError>
     requires accepted { road_fault road.now ≡ None }
     ensures end { IfOk result (λ end. IsEnd (2 ^ 127 - 1) milp.now (exchange_budget road.now) end) }
     ensures numbers { IfOk result (λ end. HasNumbersWithin (2 ^ 127 - 1) end) }
@@ -328,7 +330,7 @@ fn leaf_of_optimum(
         return Ok(waiting_leaf(range, split, Reason::Asked { optimum }, proved));
     }
     if optimum.den > GREATEST_SCALE {
-        return Ok(past_plans(optimum, proved));
+        return past_plans(alloc, road, optimum, proved, best);
     }
     match plan_found(alloc, road, &range, optimum.den, optimum.point.as_slice()) {
         Ok(found) => Ok(whole_leaf(optimum, proved, found, best)),
@@ -339,8 +341,31 @@ fn leaf_of_optimum(
     }
 }
 
-/// The leaf of an optimum that asks for no split and whose denominator is past those of plans: a plan that no certificate holds.
-fn past_plans(optimum: Optimum, proved: Proved) -> Work
+/// The leaf of an optimum that asks for no split and whose denominator is past those of plans: a plan that no certificate holds. Another
+/// one near it may be the best one then.
+fn past_plans(
+    alloc: Global,
+    road: &Road,
+    optimum: Optimum,
+    proved: Proved,
+    best: &mut Option<Best>,
+) -> Result<Work, AllocError>
+    requires accepted { road_fault road.now ≡ None }
+    requires best { IsBest road.now best.old }
+    ensures leaf { IfOk result (λ leaf. grown_of leaf ≡ stopped_leaf proved (Limit optimum.trail optimum.den)) }
+    ensures best { OnOk result (IsImproved road.now best.old best.new) }
+{
+    match look_at(alloc, road, &optimum, best) {
+        Ok(()) => Ok(past_leaf(optimum, proved)),
+        Err(error) => {
+            drop(optimum);
+            Err(error)
+        }
+    }
+}
+
+/// The leaf of an optimum whose denominator is past those of plans.
+fn past_leaf(optimum: Optimum, proved: Proved) -> Work
     ensures { grown_of result ≡ stopped_leaf proved (Limit optimum.trail optimum.den) }
 {
     let den = optimum.den;
@@ -429,7 +454,7 @@ fn plan_found(
 }
 
 /// An admissible plan with its cost.
-fn priced(road: &Road, plan: Plan) -> Best
+pub(crate) fn priced(road: &Road, plan: Plan) -> Best
     requires accepted { road_fault road.now ≡ None }
     requires admissible { IsAdmissible road.now plan }
     requires den { IsScale plan.den }
@@ -480,7 +505,7 @@ fn whole_leaf(optimum: Optimum, proved: Proved, found: Best, best: &mut Option<B
 
 /// The cheaper of two plans, the old one where they cost as much.
 #[tactic(auto, using(crate::proofs::WholeLemmas::keeps_old, crate::proofs::WholeLemmas::takes_found, crate::proofs::WholeLemmas::takes_first))]
-fn cheaper(found: Best, old: Option<Best>) -> Best
+pub(crate) fn cheaper(found: Best, old: Option<Best>) -> Best
     requires found { IsKey (found.cost.num, found.cost.den) }
     requires old { IsCostKey (best_cost old) }
     ensures { IsCheaper found old result }

@@ -157,7 +157,7 @@ static WRITING: [Due; 6] = [
         reads: 2,
         puts: 1,
         status: Status::Done,
-        output: b"carried cost 250000/1 bound 250000/1\n",
+        output: b"carried cost 250000/1 bound 225000/1\n",
         has_cert: true,
         has_notes: false,
     },

@@ -1,11 +1,15 @@
-use Rattle.std.proofs.Common.{rules, FitsSigned, refl, subst, arith, inl, List}
+use Rattle.std.proofs.Common.{◌≡◌, rules, FitsSigned, refl, subst, arith, inl, List}
 use Rattle.std.specs.Int.{w128}
 use Rattle.std.proofs.lemmas.Int.{ints, to_z-of_z}
 use Rattle.std.specs.Prelude.{ℤ}
 use Rattle.algebra.specs.Scale.{IsScale}
 use Rattle.milp_builder.specs.BoxPrograms.{box_program}
 use Rattle.branch_bound.specs.inside.Asking.{IsAsked, AsksForNothing}
+use Rattle.branch_bound.specs.inside.Grown.{grown_of, stopped_leaf}
 use Rattle.branch_bound.specs.inside.Solving.{IsPricedBest}
+use Rattle.branch_bound.specs.declared.work.Work.{Work}
+use Rattle.branch_bound.specs.declared.notes.NodeNote.TheVariants.{Limit}
+use Rattle.branch_bound.proofs.PieceLemmas.{beyond_solved}
 use Rattle.branch_bound.proofs.EndLemmas.{den_scale, waiting_solved, denominator_solved}
 use Rattle.branch_bound.proofs.WholeLemmas.{whole_solved}
 use Rattle.branch_bound.proofs.solving.leaf_of_optimum.Goals as goal
@@ -23,8 +27,11 @@ returns-then-optimum-gt-GREATEST_SCALE c =
     let none : AsksForNothing c.args.road.now c.args.optimum.den c.as_slice.result.now = simp to_z-of_z at c.in_default.ensures in
     let own = subst (λ (point : List ℤ). AsksForNothing c.args.road.now c.args.optimum.den point) c.as_slice.ensures none in
     let past = simp to_z-of_z at c.if-optimum-gt-GREATEST_SCALE.true in
-    denominator_solved c.args.road.now c.args.best.now c.args.range c.args.optimum c.args.proved _ c.requires.best c.requires.optimum refl
-    own.whole own.exact (omega (arith, ints, past)) (inl c.past_plans.ensures)
+    beyond_solved c.args.road.now c.args.best.now c.past_plans.new.best c.args.range (stopped_leaf c.args.proved (Limit c.args.optimum.trail c.args.optimum.den)) c.past_plans.result
+    (λ (leaf : Work) (e : grown_of leaf ≡ stopped_leaf c.args.proved (Limit c.args.optimum.trail c.args.optimum.den)).
+    denominator_solved c.args.road.now c.args.best.now c.args.range c.args.optimum c.args.proved (record { leaf = leaf; best = c.args.best.now }) c.requires.best c.requires.optimum refl
+    own.whole own.exact (omega (arith, ints, past)) (inl e))
+    c.past_plans.ensures.leaf c.past_plans.ensures.best
 
 pub plan_found-requires-clause-den : goal.plan_found-requires-clause-den
 plan_found-requires-clause-den c =

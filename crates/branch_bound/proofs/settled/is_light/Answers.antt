@@ -1,0 +1,4 @@
+use Rattle.branch_bound.proofs.settled.is_light.Goals as goal
+
+pub flat_road-requires : goal.flat_road-requires
+flat_road-requires c = record { accepted = rw c.flow_near-flow.ensures c.requires.accepted }
