@@ -112,7 +112,7 @@ static READING: [Due; 7] = [
 ];
 
 /// The commands that write a file, each on three roads.
-static WRITING: [Due; 6] = [
+static WRITING: [Due; 5] = [
     Due {
         name: "solve on one section",
         words: &["solve", "road", "cert"],
@@ -158,17 +158,6 @@ static WRITING: [Due; 6] = [
         puts: 1,
         status: Status::Done,
         output: b"carried cost 250000/1 bound 225000/1\n",
-        has_cert: true,
-        has_notes: false,
-    },
-    Due {
-        name: "carry on two sections, to no file as yet",
-        words: &["carry", "road", "given", "cert"],
-        files: &[("road", PAIR_ROAD), ("given", PAIR_CERT)],
-        reads: 2,
-        puts: 1,
-        status: Status::Done,
-        output: b"carried cost 225000/1 bound 225000/1\n",
         has_cert: true,
         has_notes: false,
     },
